@@ -1,0 +1,3 @@
+pub mod Judged
+mod Laws
+mod Examples

@@ -1,0 +1,9 @@
+pub mod Facts
+pub mod Trims
+pub mod Removals
+pub mod Scans
+pub mod Coverage
+pub mod Inserts
+pub mod Divides
+pub mod Edits
+pub mod Changes
