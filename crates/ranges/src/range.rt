@@ -45,6 +45,7 @@ impl Range {
     pub fn end(&self) -> u16
         ensures { λ r. ⌜ r ≡ now (self .entry) .first + now (self .entry) .pages ⌝ }
     {
-        self.first + self.pages
+        let first = self.first;
+        first + self.pages
     }
 }
