@@ -34,6 +34,7 @@ module _ (living : List Bool) (s : State) (t : ℕ) (h : Stands living s) where
       at : (k : ℕ) (b : Bool) → place-of t ≡ Some k → getD living k false ≡ b → Err e ≡ cond b (Err Living) (Ok k) → created s t ≡ record { reply = refusal e; next = s }
       at k true p is q = create-living living s t k h p is ∙ ap (λ r. record { reply = refusal r; next = s }) (sym (same-err e Living q))
       at k false p is q = absurd (ok-err k e (sym q))
+
       go : (p : Option ℕ) → place-of t ≡ p → Err e ≡ wanted living false Living p → created s t ≡ record { reply = refusal e; next = s }
       go None p q = create-unnumbered s t p ∙ ap (λ r. record { reply = refusal r; next = s }) (sym (same-err e NoTask q))
       go (Some k) p q = at k (getD living k false) p refl q
@@ -44,6 +45,7 @@ module _ (living : List Bool) (s : State) (t : ℕ) (h : Stands living s) where
       at : (j : ℕ) (b : Bool) → place-of t ≡ Some j → getD living j false ≡ b → Ok k ≡ cond b (Err Living) (Ok j) → (place-of t ≡ Some k) × (created s t ≡ record { reply = done; next = with-task s t (entries-if true) })
       at j true p is q = absurd (ok-err k Living q)
       at j false p is q = (p ∙ ap Some (sym (same-ok k j q)), create-new living s t j h p is)
+
       go : (p : Option ℕ) → place-of t ≡ p → Ok k ≡ wanted living false Living p → (place-of t ≡ Some k) × (created s t ≡ record { reply = done; next = with-task s t (entries-if true) })
       go None p q = absurd (ok-err k NoTask q)
       go (Some j) p q = at j (getD living j false) p refl q
@@ -54,6 +56,7 @@ module _ (living : List Bool) (s : State) (t : ℕ) (h : Stands living s) where
       at : (k : ℕ) (b : Bool) → place-of t ≡ Some k → getD living k false ≡ b → Err e ≡ cond b (Ok k) (Err NoTask) → ended s t ≡ record { reply = refusal e; next = s }
       at k true p is q = absurd (ok-err k e (sym q))
       at k false p is q = exit-ended living s t k h p is ∙ ap (λ r. record { reply = refusal r; next = s }) (sym (same-err e NoTask q))
+
       go : (p : Option ℕ) → place-of t ≡ p → Err e ≡ wanted living true NoTask p → ended s t ≡ record { reply = refusal e; next = s }
       go None p q = exit-unnumbered s t p ∙ ap (λ r. record { reply = refusal r; next = s }) (sym (same-err e NoTask q))
       go (Some k) p q = at k (getD living k false) p refl q
@@ -64,6 +67,7 @@ module _ (living : List Bool) (s : State) (t : ℕ) (h : Stands living s) where
       at : (j : ℕ) (b : Bool) → place-of t ≡ Some j → getD living j false ≡ b → Ok k ≡ cond b (Ok j) (Err NoTask) → (place-of t ≡ Some k) × (ended s t ≡ record { reply = done; next = with-task s t (entries-if false) })
       at j true p is q = (p ∙ ap Some (sym (same-ok k j q)), exit-living living s t j h p is)
       at j false p is q = absurd (ok-err k NoTask q)
+
       go : (p : Option ℕ) → place-of t ≡ p → Ok k ≡ wanted living true NoTask p → (place-of t ≡ Some k) × (ended s t ≡ record { reply = done; next = with-task s t (entries-if false) })
       go None p q = absurd (ok-err k NoTask q)
       go (Some j) p q = at j (getD living j false) p refl q

@@ -1,0 +1,9 @@
+use mathlib.Core.Path.{refl}
+use Rattle.std.specs.declared.option.Option.the-variants.{None}
+use Rattle.chains.specs.Walks.{dropped}
+use Rattle.objects.proofs.Edits.{edited-all}
+use Rattle.objects.proofs.frames.drop_frames.Needs as need
+
+pub returns : need.returns
+returns c =
+    edited-all None (dropped (c .args .object)) (c .args .frames .now) (c .loop-i .frames) 128 (c .loop-i .i) (c .told-frames) (c .loop-i .inv .0) (c .loop-i-test .left) refl (c .loop-i .inv .1)

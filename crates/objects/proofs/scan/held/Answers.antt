@@ -1,0 +1,18 @@
+use mathlib.Core.Path.{sym, _∙_}
+use native.Mathlib.Omega.{arith}
+use Rattle.chains.proofs.Sums.{count-none, count-hit, count-miss, count-low}
+use Rattle.objects.proofs.scan.held.Needs as need
+use Rattle.objects.proofs.scan.held.Needs.{then-is-some, else-is-some}
+
+pub loop-owner-holds : need.loop-owner-holds
+loop-owner-holds c = count-none _
+
+pub add-n : need.add-n
+add-n c = let h = count-low _ _ _ (c .loop-owner .inv) in omega arith
+
+pub loop-owner-again : need.loop-owner-again
+loop-owner-again c =
+    elim (c .if-is-some .came) [
+      | then-is-some w ↦ w .n-is ∙ count-hit _ _ _ (c .loop-owner .inv) (sym (c .is-some .ensures) ∙ w .if-is-some .taken)
+      | else-is-some w ↦ w .n-is ∙ count-miss _ _ _ (c .loop-owner .inv) (sym (c .is-some .ensures) ∙ w .if-is-some .left)
+    ]
