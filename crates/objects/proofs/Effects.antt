@@ -5,7 +5,7 @@ use mathlib.Core.Logic.{_⊎_, inl, inr}
 use Prim.Native.Nat.{ℕ, suc, _<_, _≤_}
 use native.Mathlib.Omega.{arith}
 use lib.Dec.{eqb, ltb}
-use lib.ListN.{length, getD, set}
+use lib.ListN.{length, getD}
 use Rattle.std.specs.Options.{isSome}
 use Rattle.std.specs.declared.option.Option.{Option}
 use Rattle.std.specs.declared.option.Option.the-variants.{Some, None}
@@ -24,7 +24,7 @@ use Rattle.chains.proofs.Weights.{bit-true}
 use Rattle.chains.proofs.Counting.{objects-few, objects-fewer}
 use Rattle.chains.proofs.Changes.{opened, grown-walk, fresh-bare, copied, shaded, shaded-walk, shaded-alone, placed, placed-here, placed-walk, released, released-walk, unnamed, unnamed-settled, used-below, alone-name, alone-shadow}
 use Rattle.objects.specs.declared.tables.Tables.{Tables}
-use Rattle.objects.specs.View.{backing, owner-of, top-of, in-use, is-held, walk-end, walk-length, weight-of, with-shadow, with-frame, Formed-tables, Sound-tables, Others-settled, Settled-from}
+use Rattle.objects.specs.View.{backing, owner-of, top-of, in-use, is-held, walk-end, walk-length, weight-of, with-top, with-root, with-shadow, with-frame, without-frame, Formed-tables, Sound-tables, Others-settled, Settled-from}
 use Rattle.objects.specs.Says.{unused-record, Uses-more, Uses-less, Uses-same, Starts, Copies, Keeps-walks, Keeps-others, Keeps-apart, Keeps-without, Keeps-owners, index-of, Frees-only, Holds-reached, other-frame, placeable-on, placeable}
 use Rattle.objects.proofs.Edits.{set-put}
 use Rattle.objects.proofs.Ends.{Walks-in, used-top, end-is, length-is, same-end, top-chain, frame-fixes}
@@ -90,7 +90,7 @@ same-used t t′ k e u = let x = used-top t k u in (x .0, x .1, e ∙ x .1)
 -- a new record over a new root
 module _ (t : Tables) (S : Sound-tables t) (g : Origin) (o n : ℕ) (long : length (t .objects) ≡ 511) (wide : length (t .records) ≡ 256) (fresh : Some n ≡ unused-record t) (free : Some o ≡ lowest 511 (λ k. not (live (backing t k)))) where
   abbrev opened-tables : Tables
-  opened-tables = record { records = set (t .records) n (Some o); objects = set (t .objects) o (Root g); frames = t .frames }
+  opened-tables = with-root t n o g
 
   open-objects : Put (backing t) (backing opened-tables) o (Root g)
   open-objects = let l : o < length (t .objects) = omega (arith, free-is t o free .0) in set-put Free (t .objects) _ o (Root g) l refl
@@ -118,10 +118,28 @@ module _ (t : Tables) (S : Sound-tables t) (g : Origin) (o n : ℕ) (long : leng
       same-end t opened-tables S open-sound k k (x .0) (x .0) i (x .1) (x .2)
       (λ e m q w. (m, grown-walk 511 256 128 (backing t) (backing opened-tables) (owner-of t) (top-of t) (top-of opened-tables) o n (Root g) (free-is t o free .1) (free-is t o free .0) (unused-is t n fresh .0) open-objects open-records (S .formed) w))
 
+-- what an opening does
+pub record Opens (t t′ : Tables) (g : Origin) (n : ℕ) : Type 0 where
+  pub sound : Sound-tables t′
+  pub uses : Uses-more t t′ n
+  pub starts : Starts t′ n g
+  pub keeps : Keeps-walks t t′
+  pub frames : t′ .frames ≡ t .frames
+
+pub opens : (t t′ : Tables) → Sound-tables t → (g : Origin) (o n : ℕ) → (length (t .objects) ≡ 511) × (length (t .records) ≡ 256) → Some n ≡ unused-record t → Some o ≡ lowest 511 (λ k. not (live (backing t k))) → t′ ≡ with-root t n o g → Opens t t′ g n
+opens t t′ S g o n sizes fresh free is =
+    subst (λ x. Opens t x g n) (sym is) (record {
+      sound = open-sound t S g o n (sizes .0) (sizes .1) fresh free;
+      uses = open-uses t S g o n (sizes .0) (sizes .1) fresh free;
+      starts = open-starts t S g o n (sizes .0) (sizes .1) fresh free;
+      keeps = open-keeps t S g o n (sizes .0) (sizes .1) fresh free;
+      frames = refl;
+    })
+
 -- a new record on a top
 module _ (t : Tables) (S : Sound-tables t) (r o n : ℕ) (wide : length (t .records) ≡ 256) (top : top-of t r ≡ Some o) (fresh : Some n ≡ unused-record t) where
   abbrev copied-tables : Tables
-  copied-tables = record { records = set (t .records) n (Some o); objects = t .objects; frames = t .frames }
+  copied-tables = with-top t n (Some o)
 
   copy-records : Put (top-of t) (top-of copied-tables) n (Some o)
   copy-records = let l : n < length (t .records) = omega (arith, unused-is t n fresh .0) in set-put None (t .records) _ n (Some o) l refl
@@ -140,6 +158,24 @@ module _ (t : Tables) (S : Sound-tables t) (r o n : ℕ) (wide : length (t .reco
       let d : k ≡ n → ⊥ = λ e. both-ways (in-use t k) (ap isSome (ap (top-of t) e ∙ unused-is t n fresh .1)) u in
       let x = same-used t copied-tables k (copy-records .elsewhere k d) u in
       same-end t copied-tables S copy-sound k k (x .0) (x .0) i (x .1) (x .2) (λ e m q w. (m, w))
+
+-- what a copy does
+pub record Copies-to (t t′ : Tables) (r n : ℕ) : Type 0 where
+  pub sound : Sound-tables t′
+  pub uses : Uses-more t t′ n
+  pub copies : Copies t t′ n r
+  pub keeps : Keeps-walks t t′
+  pub frames : t′ .frames ≡ t .frames
+
+pub copies-to : (t t′ : Tables) → Sound-tables t → (r o n : ℕ) → length (t .records) ≡ 256 → top-of t r ≡ Some o → Some n ≡ unused-record t → t′ ≡ with-top t n (Some o) → Copies-to t t′ r n
+copies-to t t′ S r o n wide top fresh is =
+    subst (λ x. Copies-to t x r n) (sym is) (record {
+      sound = copy-sound t S r o n wide top fresh;
+      uses = copy-uses t S r o n wide top fresh;
+      copies = copy-copies t S r o n wide top fresh;
+      keeps = copy-keeps t S r o n wide top fresh;
+      frames = refl;
+    })
 
 -- the frame at a walk's end is held
 pub frame-held : (t : Tables) → Sound-tables t → (k i s : ℕ) → walk-end t k i ≡ Some (Frame s) → is-held t s ≡ true
@@ -164,7 +200,7 @@ uses-none t r h k =
 -- a record is closed: the tables without it, and then those in which all is settled
 module _ (t : Tables) (S : Sound-tables t) (r o : ℕ) (wide : length (t .records) ≡ 256) (top : top-of t r ≡ Some o) where
   abbrev unnamed-tables : Tables
-  unnamed-tables = record { records = set (t .records) r None; objects = t .objects; frames = t .frames }
+  unnamed-tables = with-top t r None
 
   close-records : Put (top-of t) (top-of unnamed-tables) r None
   close-records =
@@ -205,10 +241,34 @@ module _ (t : Tables) (S : Sound-tables t) (r o : ℕ) (wide : length (t .record
     pub close-reached : Holds-reached t t′ r
     close-reached k i s u d h = frame-held t′ close-sound k i s (close-keeps k i u d ∙ h)
 
+-- what a closing does
+pub record Closes (t t′ : Tables) (r : ℕ) : Type 0 where
+  pub sound : Sound-tables t′
+  pub uses : Uses-less t t′ r
+  pub keeps : Keeps-others t t′ r
+  pub frees : Frees-only t t′
+  pub reached : Holds-reached t t′ r
+
+pub close-ready : (t t₁ : Tables) → Sound-tables t → (r o : ℕ) → length (t .records) ≡ 256 → top-of t r ≡ Some o → t₁ ≡ with-top t r None → record { formed : Formed-tables t₁; others : Others-settled t₁ o; live : live (backing t₁ o) ≡ true }
+close-ready t t₁ S r o wide top is =
+    subst (λ x. record { formed : Formed-tables x; others : Others-settled x o; live : live (backing x o) ≡ true }) (sym is)
+    (record { formed = close-formed t S r o wide top; others = close-others t S r o wide top; live = S .formed .tops r o top })
+
+pub closes : (t t₁ t′ : Tables) → Sound-tables t → (r o : ℕ) → length (t .records) ≡ 256 → top-of t r ≡ Some o → t₁ ≡ with-top t r None → Settled-from t₁ t′ → Closes t t′ r
+closes t t₁ t′ S r o wide top is h =
+    let settles = subst (λ x. Settled-from x t′) is h in
+    record {
+      sound = close-sound t S r o wide top t′ settles;
+      uses = close-uses t S r o wide top t′ settles;
+      keeps = close-keeps t S r o wide top t′ settles;
+      frees = close-frees t S r o wide top t′ settles;
+      reached = close-reached t S r o wide top t′ settles;
+    }
+
 -- a frame is freed
 module _ (t : Tables) (S : Sound-tables t) (s : ℕ) (long : length (t .frames) ≡ 128) (inside : s < 128) where
   abbrev released-tables : Tables
-  released-tables = record { records = t .records; objects = t .objects; frames = set (t .frames) s None }
+  released-tables = without-frame t s
 
   release-frames : Put (owner-of t) (owner-of released-tables) s None
   release-frames = let l : s < length (t .frames) = omega arith in set-put None (t .frames) _ s None l refl
@@ -227,6 +287,24 @@ module _ (t : Tables) (S : Sound-tables t) (s : ℕ) (long : length (t .frames) 
       let x = used-top t k u in
       same-end t released-tables S release-sound k k (x .0) (x .0) j (x .1) (x .1)
       (λ e m q w. (m, released-walk 511 256 128 (backing t) (owner-of t) (owner-of released-tables) (top-of t) s release-frames w (λ f. d (q ∙ ap Some f))))
+
+-- what a release does
+pub record Releases (t t′ : Tables) (s : ℕ) : Type 0 where
+  pub sound : Sound-tables t′
+  pub records : t′ .records ≡ t .records
+  pub free : owner-of t′ s ≡ None
+  pub slots : Keeps-owners t t′ s
+  pub keeps : Keeps-without t t′ s
+
+pub releases : (t t′ : Tables) → Sound-tables t → (s : ℕ) → length (t .frames) ≡ 128 → s < 128 → t′ ≡ without-frame t s → Releases t t′ s
+releases t t′ S s long inside is =
+    subst (λ x. Releases t x s) (sym is) (record {
+      sound = release-sound t S s long inside;
+      records = refl;
+      free = release-free t S s long inside;
+      slots = release-slots t S s long inside;
+      keeps = release-keeps t S s long inside;
+    })
 
 -- a shadow comes between a record and its top
 module _ (t : Tables) (S : Sound-tables t) (r o : ℕ) (top : top-of t r ≡ Some o) (shared : 3 ≤ weight-of t o) where

@@ -4,6 +4,7 @@ use mathlib.Core.Bool.{true, not, cond}
 use mathlib.Core.Logic.{inl, inr}
 use Prim.Native.Nat.{ℕ, _+_, _<_}
 use native.Mathlib.Omega.{arith}
+use lib.ListN.{getD, replicate}
 use Rattle.std.specs.Options.{isSome}
 use Rattle.std.specs.declared.option.Option.{Option}
 use Rattle.std.specs.declared.option.Option.the-variants.{Some, None}
@@ -23,6 +24,7 @@ use Rattle.objects.specs.declared.tables.Tables.{Tables}
 use Rattle.objects.specs.View.{backing, owner-of, top-of, in-use, is-held, records-used, frames-held, walk-end, Sound-tables}
 use Rattle.objects.specs.Says.{unused-record, Keeps-owners}
 use Rattle.objects.specs.Kept.{Objects-few, Records-few, Frames-few, Tops-live, Chains-end, Owners-live, Owners-apart, All-settled}
+use Rattle.objects.proofs.Edits.{repeated}
 use Rattle.objects.proofs.Ends.{chain-few, used-top, walk-of, end-is, end-none}
 use Rattle.objects.proofs.Effects.{not-some, dead-free, frame-held}
 
@@ -73,6 +75,13 @@ sound-fields t S = (
     apart s k (Some w) e h u = S .formed .apart s k w e (sym h ∙ e)
 
 -- tables with nothing in them
+pub empty-rows : (t : Tables) → t .records ≡ replicate 256 None → t .objects ≡ replicate 511 Free → t .frames ≡ replicate 128 None → ((k : ℕ) → top-of t k ≡ None) × ((o : ℕ) → backing t o ≡ Free) × ((s : ℕ) → owner-of t s ≡ None)
+empty-rows t records objects frames = (
+  λ k. ap (λ xs. getD xs k None) records ∙ repeated 256 None k,
+  λ o. ap (λ xs. getD xs o Free) objects ∙ repeated 511 Free o,
+  λ s. ap (λ xs. getD xs s None) frames ∙ repeated 128 None s,
+)
+
 pub empty-sound : (t : Tables) → ((k : ℕ) → top-of t k ≡ None) → ((o : ℕ) → backing t o ≡ Free) → ((s : ℕ) → owner-of t s ≡ None) → Sound-tables t
 empty-sound t records objects frames = record {
   formed = record {

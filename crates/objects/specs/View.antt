@@ -6,8 +6,9 @@ use lib.ListN.{getD, set}
 use Rattle.std.specs.Options.{isSome}
 use Rattle.std.specs.declared.option.Option.{Option}
 use Rattle.std.specs.declared.option.Option.the-variants.{Some, None}
+use Rattle.chains.specs.declared.Origin.{Origin}
 use Rattle.chains.specs.declared.Backing.{Backing}
-use Rattle.chains.specs.declared.Backing.the-variants.{Free, Shadow}
+use Rattle.chains.specs.declared.Backing.the-variants.{Free, Root, Shadow}
 use Rattle.chains.specs.declared.Owner.{Owner}
 use Rattle.chains.specs.declared.End.{End}
 use Rattle.chains.specs.Rows.{live, own, count, weight}
@@ -71,6 +72,14 @@ Others-settled t o = (a : ℕ) → live (backing t a) ≡ true → (a ≡ o → 
 abbrev pub Settled-from : Tables → Tables → Type 0
 Settled-from t t′ = (t′ .records ≡ t .records) × Settles 511 256 128 (backing t) (backing t′) (owner-of t) (owner-of t′) (top-of t)
 
+-- the tables with record r on top x
+abbrev pub with-top : Tables → ℕ → Option ℕ → Tables
+with-top t r x = record { records = set (t .records) r x; objects = t .objects; frames = t .frames }
+
+-- the tables with record r on object o, a new root
+abbrev pub with-root : Tables → ℕ → ℕ → Origin → Tables
+with-root t r o g = record { records = set (t .records) r (Some o); objects = set (t .objects) o (Root g); frames = t .frames }
+
 -- the tables with object p a new shadow between record r and object o
 abbrev pub with-shadow : Tables → ℕ → ℕ → ℕ → Tables
 with-shadow t r o p = record { records = set (t .records) r (Some p); objects = set (t .objects) p (Shadow o); frames = t .frames }
@@ -78,3 +87,7 @@ with-shadow t r o p = record { records = set (t .records) r (Some p); objects = 
 -- the tables with frame s at index i of object o
 abbrev pub with-frame : Tables → ℕ → ℕ → ℕ → Tables
 with-frame t o i s = record { records = t .records; objects = t .objects; frames = set (t .frames) s (Some (own o i)) }
+
+-- the tables without frame s
+abbrev pub without-frame : Tables → ℕ → Tables
+without-frame t s = record { records = t .records; objects = t .objects; frames = set (t .frames) s None }

@@ -12,6 +12,7 @@ ghost use Rattle.objects.specs.View.{backing, owner-of, in-use, is-held, recor
 ghost use Rattle.objects.specs.Says.{unused-record, Uses-more, Uses-less, Uses-same, Starts, Copies, Keeps-walks, Keeps-others, Keeps-apart, Keeps-without, Keeps-owners, Frees-only, Holds-reached, index-of, placeable, Takes-own, Takes-shared};
 use crate::scan::frame_of;
 use crate::scan::held;
+use crate::scan::owner_at;
 use crate::scan::used;
 use crate::scan::vacant;
 use crate::store::Store;
@@ -69,7 +70,7 @@ impl Store {
         if slot >= 128 {
             return None;
         }
-        self.tables.frames[slot as usize]
+        owner_at(&self.tables.frames, slot)
     }
 
     // The frame that belongs to the object at the index.

@@ -1,16 +1,16 @@
 // The changes of the tables, on tables that are sound.
 ghost use mathlib.Core.Path.{_≡_};
 ghost use mathlib.Core.Bool.{true, false, not, cond};
-ghost use Prim.Native.Nat.{ℕ, _≤_, _<_};
+ghost use Prim.Native.Nat.{_≤_, _<_};
 ghost use lib.ListN.{length};
 ghost use Rattle.std.specs.Slices.{found};
 ghost use Rattle.std.specs.declared.option.Option.the-variants.{Some, None};
-ghost use Rattle.chains.specs.declared.Backing.the-variants.{Free};
 ghost use Rattle.chains.specs.declared.End.the-variants.{Frame};
 ghost use Rattle.chains.specs.Rows.{live};
 ghost use Rattle.chains.specs.Walks.{lowest, slot-of};
 ghost use Rattle.objects.specs.View.{backing, top-of, owner-of, in-use, is-held, walk-end, walk-length, weight-of, with-shadow, with-frame, Sound-tables};
 ghost use Rattle.objects.specs.Says.{unused-record, Uses-more, Uses-less, Uses-same, Starts, Copies, Keeps-walks, Keeps-others, Keeps-apart, Keeps-without, Keeps-owners, Frees-only, Holds-reached, other-frame, placeable};
+use crate::edit::is_other;
 use crate::scan::frame_of;
 use crate::scan::free;
 use crate::scan::unused;
@@ -20,19 +20,6 @@ use chains::Origin;
 use chains::Owner;
 
 impl Tables {
-    // No record in use, no object live, no frame held.
-    pub(crate) fn empty() -> Tables
-        ensures records { λ r. ⌜ ((k : ℕ) → top-of r k ≡ None) ⌝ }
-        ensures objects { λ r. ⌜ ((o : ℕ) → backing r o ≡ Free) ⌝ }
-        ensures frames { λ r. ⌜ ((s : ℕ) → owner-of r s ≡ None) ⌝ }
-    {
-        Tables {
-            records: [None; 256],
-            objects: [Backing::Free; 511],
-            frames: [None; 128],
-        }
-    }
-
     // A new record over a new root object.
     pub(crate) fn open(&mut self, origin: Origin) -> Option<u8>
         requires { ⌜ Sound-tables (now self) ⌝ }
@@ -46,8 +33,7 @@ impl Tables {
     {
         let sharing = unused(&self.records)?;
         let object = free(&self.objects)?;
-        self.objects[object as usize] = Backing::Root(origin);
-        self.records[sharing as usize] = Some(object);
+        self.start(sharing, object, origin);
         Some(sharing)
     }
 
@@ -65,7 +51,7 @@ impl Tables {
         let top = self.records[sharing as usize];
         let object = top?;
         let fresh = unused(&self.records)?;
-        self.records[fresh as usize] = Some(object);
+        self.name(fresh, object);
         Some(fresh)
     }
 
@@ -84,7 +70,7 @@ impl Tables {
         let Some(object) = top else {
             return false;
         };
-        self.records[sharing as usize] = None;
+        self.unname(sharing);
         self.forget(object);
         true
     }
@@ -107,7 +93,7 @@ impl Tables {
         if owner.is_none() {
             return false;
         }
-        self.frames[slot as usize] = None;
+        self.let_go(slot);
         true
     }
 
@@ -123,8 +109,7 @@ impl Tables {
         let Some(shadow) = free(&self.objects) else {
             return object;
         };
-        self.objects[shadow as usize] = Backing::Shadow(object);
-        self.records[sharing as usize] = Some(shadow);
+        self.cover(sharing, object, shadow);
         shadow
     }
 
@@ -135,12 +120,10 @@ impl Tables {
         ensures answer { λ r. ⌜ r ≡ not (other-frame (slot-of 128 (owner-of (now (self .entry))) object index) slot) ⌝ }
         ensures tables { λ r. ⌜ now (self .exit) ≡ cond r (with-frame (now (self .entry)) object index slot) (now (self .entry)) ⌝ }
     {
-        if let Some(other) = frame_of(&self.frames, object, index) {
-            if other != slot {
-                return false;
-            }
+        if is_other(frame_of(&self.frames, object, index), slot) {
+            return false;
         }
-        self.frames[slot as usize] = Some(Owner { object, index });
+        self.hold(slot, object, index);
         true
     }
 
@@ -163,7 +146,7 @@ impl Tables {
         if slot >= 128 {
             return false;
         }
-        if self.weight(object) > 2 {
+        if self.is_shared(object) {
             let shadow = self.shade(sharing, object);
             self.put_at(shadow, index, slot)
         } else {

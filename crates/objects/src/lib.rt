@@ -1,6 +1,7 @@
 // Sharing records, memory objects and frames: walks, shadows, collapse.
 mod calls;
 mod change;
+mod edit;
 mod frames;
 mod scan;
 mod settle;

@@ -1,7 +1,7 @@
 // Loops that look through one table and change nothing.
 ghost use mathlib.Core.Path.{_≡_};
 ghost use mathlib.Core.Bool.{not};
-ghost use Prim.Native.Nat.{min};
+ghost use Prim.Native.Nat.{_<_, min};
 ghost use lib.ListN.{getD};
 ghost use Rattle.std.specs.Options.{isSome};
 ghost use Rattle.std.specs.declared.option.Option.the-variants.{Some, None};
@@ -103,6 +103,14 @@ pub fn frame_of(frames: &[Option<Owner>; 128], object: u16, index: u16) -> Optio
         }
     }
     None
+}
+
+// The owner of the frame.
+pub fn owner_at(frames: &[Option<Owner>; 128], slot: u8) -> Option<Owner>
+    requires { ⌜ slot < 128 ⌝ }
+    ensures { λ r. ⌜ r ≡ getD (now (frames .entry)) slot None ⌝ }
+{
+    frames[slot as usize]
 }
 
 // The lowest frame below the limit that is not held.

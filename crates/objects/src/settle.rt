@@ -9,20 +9,11 @@ ghost use Rattle.chains.specs.Walks.{dropped, lifted};
 ghost use Rattle.objects.specs.View.{backing, owner-of, weight-of, Formed-tables, Others-settled, Settled-from};
 use crate::frames::drop_frames;
 use crate::frames::lift_frames;
-use crate::scan::names;
-use crate::scan::shadows;
 use crate::scan::upper;
 use crate::tables::Tables;
 use chains::Backing;
 
 impl Tables {
-    // Twice the records that name the object, and the objects that shadow it.
-    pub(crate) fn weight(&self, object: u16) -> usize
-        ensures { λ r. ⌜ r ≡ weight-of (now (self .entry)) object ⌝ }
-    {
-        2 * names(&self.records, object) + shadows(&self.objects, object)
-    }
-
     // Collapses `lower` into `upper`: its pages that `upper` lacks move up, and `upper` takes over its backing.
     fn collapse(&mut self, lower: u16, upper: u16)
         requires lower { ⌜ lower < 511 ⌝ }
@@ -58,7 +49,7 @@ impl Tables {
         requires referred { ⌜ 1 ≤ weight-of (now self) object ⌝ }
         ensures { λ _. ⌜ Settled-from (now (self .entry)) (now (self .exit)) ⌝ }
     {
-        if self.weight(object) != 1 {
+        if !self.is_single(object) {
             return;
         }
         if let Some(shadow) = upper(&self.objects, object) {
@@ -73,7 +64,7 @@ impl Tables {
         requires live { ⌜ live (backing (now self) object) ≡ true ⌝ }
         ensures { λ _. ⌜ Settled-from (now (self .entry)) (now (self .exit)) ⌝ }
     {
-        if self.weight(object) > 0 {
+        if !self.is_unused(object) {
             self.settle(object);
             return;
         }

@@ -1,4 +1,4 @@
-use mathlib.Core.Path.{refl, sym, ap, _∙_}
+use mathlib.Core.Path.{sym, ap, _∙_}
 use Rattle.objects.specs.Says.{index-of}
 use Rattle.objects.proofs.Ends.{frame-fixes}
 use Rattle.objects.proofs.Keeping.{store-sound}
@@ -14,6 +14,6 @@ returns-then-slot-ge128 c =
 
 pub returns : need.returns
 returns c = record {
-  answer = refl;
-  fixes = λ k i h. frame-fixes (c .args .self .now .tables) (store-sound (c .args .self .now)) k i (c .args .slot) h;
+  answer = c .owner-at .ensures;
+  fixes = λ k i h. ap index-of (c .owner-at .ensures) ∙ frame-fixes (c .args .self .now .tables) (store-sound (c .args .self .now)) k i (c .args .slot) h;
 }

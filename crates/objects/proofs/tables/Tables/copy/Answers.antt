@@ -1,28 +1,21 @@
-use mathlib.Core.Path.{_≡_, refl, sym, ap, _∙_}
+use mathlib.Core.Path.{refl, sym, ap, _∙_}
 use mathlib.Core.Bool.{cond}
-use lib.ListN.{length}
-use borrow.Author.Needs.{needs}
 use Rattle.std.specs.Options.{isSome}
 use Rattle.std.specs.declared.option.Option.the-variants.{None}
 use Rattle.chains.proofs.Finds.{none-some}
 use Rattle.objects.specs.Says.{unused-record}
-use Rattle.objects.proofs.Effects.{copy-sound, copy-uses, copy-copies, copy-keeps}
+use Rattle.objects.proofs.Effects.{copies-to}
 use Rattle.objects.proofs.tables.Tables.copy.Needs as need
 
 pub returns : need.returns
 returns c =
-    let t = c .args .self .now in
-    let wide : length (t .records) ≡ 256 = search needs in
-    let o = c .in-Continue-object .object in
-    let n = c .in-Continue-fresh .fresh in
-    let top = c .in-Continue-object .was tt in
-    let fresh = c .in-Continue-fresh .ensures tt in
+    let x = copies-to (c .args .self .now) (c .name .last .self) (c .pre) (c .args .sharing) (c .in-Continue-object .object) (c .in-Continue-fresh .fresh) (c .name .ensures .size) (c .in-Continue-object .was tt) (c .in-Continue-fresh .ensures tt) (c .name .ensures .tables) in
     record {
-      sound = copy-sound t (c .pre) (c .args .sharing) o n wide top fresh;
-      answer = fresh ∙ sym (ap (λ x. cond (isSome x) (unused-record t) None) top);
+      sound = x .sound;
+      answer = c .in-Continue-fresh .ensures tt ∙ sym (ap (λ y. cond (isSome y) (unused-record (c .args .self .now)) None) (c .in-Continue-object .was tt));
       refused = λ e. absurd (none-some _ e refl);
-      uses = copy-uses t (c .pre) (c .args .sharing) o n wide top fresh;
-      copies = copy-copies t (c .pre) (c .args .sharing) o n wide top fresh;
-      keeps = copy-keeps t (c .pre) (c .args .sharing) o n wide top fresh;
-      frames = refl;
+      uses = x .uses;
+      copies = x .copies;
+      keeps = x .keeps;
+      frames = x .frames;
     }

@@ -1,31 +1,23 @@
-use mathlib.Core.Path.{_≡_, refl}
-use lib.ListN.{length}
-use borrow.Author.Needs.{needs}
+use mathlib.Core.Path.{refl}
 use Rattle.chains.proofs.Finds.{none-some}
-use Rattle.objects.proofs.Effects.{free-is, free-there, open-sound, open-uses, open-starts, open-keeps}
+use Rattle.objects.proofs.Effects.{free-is, free-there, opens}
 use Rattle.objects.proofs.tables.Tables.open.Needs as need
 
 pub returns-in-Break-object : need.returns-in-Break-object
 returns-in-Break-object c = absurd (free-there (c .args .self .now) (c .pre) (c .in-Continue-sharing .sharing) (c .in-Continue-sharing .ensures tt) (c .in-Break-object .ensures tt))
 
-pub index-self-object : need.index-self-object
-index-self-object c = free-is (c .args .self .now) (c .in-Continue-object .object) (c .in-Continue-object .ensures tt) .0
+pub start-requires : need.start-requires
+start-requires c κs = free-is (c .args .self .now) (c .in-Continue-object .object) (c .in-Continue-object .ensures tt) .0
 
 pub returns : need.returns
 returns c =
-    let t = c .args .self .now in
-    let long : length (t .objects) ≡ 511 = search needs in
-    let wide : length (t .records) ≡ 256 = search needs in
-    let o = c .in-Continue-object .object in
-    let n = c .in-Continue-sharing .sharing in
-    let fresh = c .in-Continue-sharing .ensures tt in
-    let free = c .in-Continue-object .ensures tt in
+    let x = opens (c .args .self .now) (c .start .last .self) (c .pre) (c .args .origin) (c .in-Continue-object .object) (c .in-Continue-sharing .sharing) (c .start .ensures .sizes) (c .in-Continue-sharing .ensures tt) (c .in-Continue-object .ensures tt) (c .start .ensures .tables) in
     record {
-      sound = open-sound t (c .pre) (c .args .origin) o n long wide fresh free;
-      answer = fresh;
+      sound = x .sound;
+      answer = c .in-Continue-sharing .ensures tt;
       refused = λ e. absurd (none-some _ e refl);
-      uses = open-uses t (c .pre) (c .args .origin) o n long wide fresh free;
-      starts = open-starts t (c .pre) (c .args .origin) o n long wide fresh free;
-      keeps = open-keeps t (c .pre) (c .args .origin) o n long wide fresh free;
-      frames = refl;
+      uses = x .uses;
+      starts = x .starts;
+      keeps = x .keeps;
+      frames = x .frames;
     }

@@ -4,5 +4,5 @@ use Rattle.objects.proofs.tables.Tables.shade.Needs as need
 pub returns-in-rest : need.returns-in-rest
 returns-in-rest c = absurd (shadow-there (c .args .self .now) (c .pre .sound) (c .args .sharing) (c .args .object) (c .pre .top) (c .pre .shared) (c .in-rest .ensures tt))
 
-pub index-self-shadow : need.index-self-shadow
-index-self-shadow c = free-is (c .args .self .now) (c .in-Some .shadow) (c .in-Some .ensures tt) .0
+pub cover-requires : need.cover-requires
+cover-requires c κs = free-is (c .args .self .now) (c .in-Some .shadow) (c .in-Some .ensures tt) .0
