@@ -5,6 +5,7 @@ mod tests {
     use scripts::Record;
     use scripts::count_records;
     use scripts::next_record;
+    use scripts::printed;
     use scripts::push_bytes;
     use scripts::push_counts;
     use scripts::push_numbers;
@@ -178,7 +179,7 @@ mod tests {
     }
 
     #[test]
-    fn transcript(rt: LibcRuntime) -> Result<(), Fail> {
+    fn lines(rt: LibcRuntime) -> Result<(), Fail> {
         let mut out = String::new(rt.alloc());
         push_plain(&mut out, 1, 0)?;
         push_counts(&mut out, 2, [3, 2, 1, 128])?;
@@ -186,5 +187,26 @@ mod tests {
         push_numbers(&mut out, 4, 12, &[2, 0, 1, 0, 1, 1, 1024])?;
         push_plain(&mut out, 15, 14)?;
         check(out.as_str() == "1 0\n2 0 3 2 1 128\n3 0 00af\n4 12 2 0 1 0 1 1 1024\n15 14\n")
+    }
+
+    // Calls, refusals, a malformed record and one that is cut short.
+    #[test]
+    fn short_script(rt: LibcRuntime) -> Result<(), Fail> {
+        let script = [0, 2, 1, 1, 0, 2, 1, 1, 0, 2, 10, 9, 0, 1, 11, 0, 0, 0];
+        let text = printed(rt.alloc(), &script)?;
+        check(text.as_str() == "1 0\n2 3\n3 2\n4 0 0 0 0 128\n5 13\n6 14\n")
+    }
+
+    // The longest script is performed, and one byte more is not.
+    #[test]
+    fn long_scripts(rt: LibcRuntime) -> Result<(), Fail> {
+        let heap = rt.alloc();
+        let mut script = vec![in heap; 0u8; 16384]?;
+        let text = printed(heap, script.as_slice())?;
+        check(text.as_str().starts_with("1 13\n2 13\n"))?;
+        check(text.as_str().ends_with("\n8192 13\n"))?;
+        script.push(0)?;
+        let refused = printed(heap, script.as_slice())?;
+        check(refused.as_str() == "too long\n")
     }
 }
