@@ -58,13 +58,6 @@ lowest-not n p b = at (lowest n p) refl
     at None e = e
     at (Some j) e = let f = lowest-some n p j e in absurd (both-ways (p j) (b j (f .0)) (f .1))
 
-pub lowest-same : (n : ℕ) (p q : ℕ → Bool) → ((k : ℕ) → p k ≡ q k) → lowest n p ≡ lowest n q
-lowest-same n p q h = at (lowest n q) refl
-  where
-    at : (x : Option ℕ) → lowest n q ≡ x → lowest n p ≡ lowest n q
-    at None e = lowest-not n p (λ k l. h k ∙ lowest-none n q e k l) ∙ sym e
-    at (Some j) e = let f = lowest-some n q j e in lowest-is n p j (f .0) (h j ∙ f .1) (λ k l. h k ∙ f .2 k l) ∙ sym e
-
 -- owners
 pub owned-true : (o i : ℕ) (x : Option Owner) → owned? o i x ≡ true → x ≡ Some (own o i)
 owned-true o i None h = absurd (both-ways false refl h)
@@ -80,9 +73,6 @@ owned-is o i x h = ap (owned? o i) h ∙ and-from (eqb o o) (eqb i i) (eq-eqb o 
 module _ (F : ℕ) (W : ℕ → Option Owner) where
   pub slot-some : (o i s : ℕ) → slot-of F W o i ≡ Some s → W s ≡ Some (own o i)
   slot-some o i s h = owned-true o i (W s) (lowest-some F _ s h .1)
-
-  pub slot-below : (o i s : ℕ) → slot-of F W o i ≡ Some s → s < F
-  slot-below o i s h = lowest-some F _ s h .0
 
   pub bare-none : (o i : ℕ) → Bare W o i → slot-of F W o i ≡ None
   bare-none o i h = lowest-not F _ (λ k l. elim (cases-bool (owned? o i (W k))) [ inl t ↦ absurd (h k (owned-true o i (W k) t)) | inr f ↦ f ])

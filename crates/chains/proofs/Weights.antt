@@ -12,7 +12,7 @@ use Rattle.chains.specs.declared.Backing.{Backing}
 use Rattle.chains.specs.declared.Backing.the-variants.{Free, Root, Shadow}
 use Rattle.chains.specs.Rows.{live, shadows?, names?, sumTo, bit, count}
 use Rattle.chains.specs.Sound.{Put}
-use Rattle.chains.proofs.Sums.{bit-le, sum-le, sum-same, sum-zero, sum-one, sum-swap, sum-change}
+use Rattle.chains.proofs.Sums.{bit-le, sum-le, sum-zero, sum-one, sum-swap, sum-change}
 
 pub bit-true : (b : Bool) → b ≡ true → bit b ≡ 1
 bit-true b h = ap bit h
@@ -40,9 +40,6 @@ pub shadows-put : (N : ℕ) (B B′ : ℕ → Backing) (p : ℕ) (x : Backing) �
 shadows-put N B B′ p x put l o =
     sum-change N (λ k. bit (shadows? o (B k))) (λ k. bit (shadows? o (B′ k))) p l (λ j d. ap (λ y. bit (shadows? o y)) (put .elsewhere j d))
     ∙ ap (λ y. count N (λ k. shadows? o (B k)) + bit (shadows? o y)) (put .here)
-
-pub names-same : (M : ℕ) (T T′ : ℕ → Option ℕ) → ((r : ℕ) → T′ r ≡ T r) → (o : ℕ) → count M (λ k. names? o (T′ k)) ≡ count M (λ k. names? o (T k))
-names-same M T T′ h o = sum-same M _ _ (λ k l. ap (λ y. bit (names? o y)) (h k))
 
 -- a row counts at most once among all objects
 pub one-name : (N : ℕ) (x : Option ℕ) → sumTo N (λ o. bit (names? o x)) ≤ bit (isSome x)

@@ -18,7 +18,7 @@ use Rattle.chains.specs.Rows.{live, source}
 use Rattle.chains.specs.Walks.{Bare, Chain, Walks, at-frame, at-root, below, slot-of, end-within, length-within}
 use Rattle.chains.proofs.Sums.{count-le}
 use Rattle.chains.proofs.Finds.{slot-some, none-bare, none-some}
-use Rattle.chains.proofs.Chains.{walk-total, walk-end-is, walk-length-is, walk-le, chain-live, chain-next, free-live}
+use Rattle.chains.proofs.Chains.{walk-total, walk-end-is, walk-length-is, walk-le, chain-live, chain-next}
 use Rattle.chains.proofs.Counting.{chain-short}
 use Rattle.objects.specs.declared.tables.Tables.{Tables}
 use Rattle.objects.specs.declared.tables.Step.{Step}
@@ -131,15 +131,6 @@ module _ (t : Tables) (S : Sound-tables t) (o i : ℕ) where
       at None (Root g) u q k = absurd (let z : _≡_ {A = ℕ} 0 1 = cc in omega arith)
       at None (Shadow v) u q k = let z : Shadow v ≡ Shadow p = cc in (none-bare 128 (owner-of t) (S .formed .frames) o i u, q ∙ z)
 
-  pub step-there : live (backing t o) ≡ true → None ≡ step-at t o i → ⊥
-  step-there l h = at (slot-of 128 (owner-of t) o i) (backing t o) refl h
-    where
-      at : (x : Option ℕ) (b : Backing) → backing t o ≡ b → None ≡ step-on x b i → ⊥
-      at (Some s) b q k = none-some None refl k
-      at None Free q k = free-live (backing t o) q l
-      at None (Root g) q k = none-some None refl k
-      at None (Shadow p) q k = none-some None refl k
-
 -- the walk so far: n objects were visited, and a walk from object o on is one from the top on
 abbrev pub Comes : Tables → ℕ → ℕ → ℕ → ℕ → Type 0
 Comes t i top o n = (live (backing t o) ≡ true) × ((e : End) (m k : ℕ) → suc k ≡ n + m → Walks-in t i o e m → Walks-in t i top e k)
@@ -150,9 +141,6 @@ walk-some (at-root b h) = omega arith
 walk-some (below b h w) = omega (arith, walk-some w)
 
 module _ (t : Tables) (S : Sound-tables t) (i top : ℕ) where
-  pub comes-first : live (backing t top) ≡ true → Comes t i top top 1
-  comes-first l = (l, λ e m k q w. let z : m ≡ k = omega arith in subst (λ y. Walks-in t i top e y) z w)
-
   pub comes-more : (o n p : ℕ) → Comes t i top o n → Some (Below p) ≡ step-at t o i → Comes t i top p (n + 1)
   comes-more o n p c h =
       let b = step-below t S o i p h in

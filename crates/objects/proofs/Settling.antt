@@ -16,7 +16,7 @@ use Rattle.chains.specs.Sound.{Formed, Settles, Put}
 use Rattle.chains.proofs.Finds.{lowest-some, lowest-none}
 use Rattle.chains.proofs.Chains.{chain-live, chain-next, free-live}
 use Rattle.chains.proofs.Weights.{shadows-true}
-use Rattle.chains.proofs.Changes.{live-below, some-shadow, collapse-settles, still-settles, then-settles, root-settles, shadow-nearly, freed, freed-keeps, freed-thins}
+use Rattle.chains.proofs.Changes.{live-below, some-shadow, collapse-settles, then-settles, root-settles, shadow-nearly, freed, freed-keeps, freed-thins}
 use Rattle.objects.specs.declared.tables.Tables.{Tables}
 use Rattle.objects.specs.View.{backing, owner-of, top-of, weight-of, Formed-tables, Others-settled, Settled-from}
 use Rattle.objects.proofs.Edits.{set-put}
@@ -41,9 +41,6 @@ module _ (t : Tables) (formed : Formed-tables t) where
       both-ways (shadows? o (backing t (x .0))) (lowest-none 511 (λ k. shadows? o (backing t k)) (sym h) (x .0) (x .1)) (ap (shadows? o) (x .2) ∙ eq-eqb o o refl)
 
   module _ (o : ℕ) (others : Others-settled t o) where
-    pub settle-still : (w : ℕ) → w ≡ weight-of t o → 1 ≤ weight-of t o → (w ≡ 1 → ⊥) → Settled-from t t
-    settle-still w h l d = (refl, still-settles 511 256 128 (backing t) (owner-of t) (top-of t) o formed others (omega arith))
-
     module _ (t′ : Tables) (long : length (t .objects) ≡ 511) (records : t′ .records ≡ t .records) where
       pub settle-collapse : (q : ℕ) → weight-of t o ≡ 1 → Some q ≡ lowest 511 (λ k. shadows? o (backing t k)) → t′ .objects ≡ set (set (t .objects) o Free) q (backing t o) → ((s : ℕ) → owner-of t′ s ≡ lifted 128 (owner-of t) o q (owner-of t s)) → Settled-from t t′
       settle-collapse q one h objects frames =

@@ -11,6 +11,7 @@ pub use element::range_of;
 pub use range::Range;
 pub use scan::covers;
 pub use scan::find;
+pub use scan::is_taken;
 pub use table::change;
 pub use table::cut;
 pub use table::insert;

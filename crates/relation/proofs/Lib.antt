@@ -1,0 +1,13 @@
+pub mod Lists
+pub mod Counting
+pub mod Keeping
+pub mod Cells
+pub mod Tallies
+pub mod Rows
+pub mod Named
+pub mod Standing
+pub mod Renaming
+pub mod Mapping
+pub mod Sweeping
+pub mod Outcomes
+pub mod Starting

@@ -1,0 +1,1 @@
+// How an engine stands for a state of the copying machine: the relation, and what keeps it.
