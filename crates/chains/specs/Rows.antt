@@ -48,6 +48,7 @@ unfoldable pub sumTo : ℕ → (ℕ → ℕ) → ℕ
 sumTo zero f = 0
 sumTo (suc n) f = sumTo n f + f n
 
+-- a test as a number: 1 where it holds
 abbrev pub bit : Bool → ℕ
 bit true = 1
 bit false = 0

@@ -59,5 +59,6 @@ resting r e = record { first = e .first; pages = e .pages; protection = e .prote
 pub protected-still : (v : Protection) → Altering entry-shape (protected v)
 protected-still v = record { same-first = λ e. refl; same-pages = λ e. refl; same-fits = λ e. refl; page-by-page = λ e q. refl }
 
+-- and nor does a new inheritance
 pub inheriting-still : (v : Inheritance) → Altering entry-shape (inheriting v)
 inheriting-still v = record { same-first = λ e. refl; same-pages = λ e. refl; same-fits = λ e. refl; page-by-page = λ e q. refl }

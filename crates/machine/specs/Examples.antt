@@ -12,6 +12,7 @@ use Rattle.machine.specs.Calls.{Call, zeros, page-of, create, map-pages, unmap
 use Rattle.machine.specs.State.{start}
 use Rattle.machine.specs.Step.{replies}
 
+-- a number of frames, a pager, calls, and the replies to them
 pub record Example : Type 0 where
   pub frames : ℕ
   pub pager : Meaning
@@ -127,6 +128,7 @@ fourteen-entries = record {
   expected = accepted-calls 16 ++ (refused 9 ∷ []);
 }
 
+-- with 15 entries the middle of one cannot be protected
 unfoldable pub fifteen-entries : Example
 fifteen-entries = record {
   frames = 128;

@@ -19,6 +19,7 @@ pub record Cell : Type 0 where
   pub source : Source
   pub mark : Option ℕ
 
+-- all that the machine knows
 pub record State : Type 0 where
   -- F, the number of frames
   pub frames : ℕ

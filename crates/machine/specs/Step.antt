@@ -81,7 +81,7 @@ accepted s = record { reply = done; next = s }
 
 -- Create
 
--- a task without entries
+-- create: a task without entries
 unfoldable pub created : State → ℕ → Outcome
 created s t = judged (refuse 2 (misnumbered t) ∷ refuse 3 (lives s t) ∷ []) s (accepted (with-task s t (Some [])))
 
@@ -99,6 +99,7 @@ with-entry s t e = inserted entry-shape e (table s t)
 unfoldable pub map-on : ℕ → Meaning → State → ℕ → ℕ → ℕ → Source → State
 map-on r M s t start pages from = with-task (with-record s r (λ i. untouched M (along i from))) t (Some (with-entry s t (fresh-entry r start pages)))
 
+-- map: an entry on a new record, over zeros or the pages of an object
 unfoldable pub mapped : Meaning → State → ℕ → ℕ → ℕ → Source → Outcome
 mapped M s t start pages from =
     judged
@@ -112,13 +113,13 @@ mapped M s t start pages from =
 
 -- Unmap, protect and inherit
 
--- the task's table becomes another, which has to fit
+-- unmap: the pages of the range are taken out of the task's table, which then has to fit
 unfoldable pub unmapped : State → ℕ → ℕ → ℕ → Outcome
 unmapped s t start pages =
     let es = removed entry-shape start (start + pages) (table s t) in
     judged (refuse 2 (missing s t) ∷ refuse 4 (bad-range start pages) ∷ refuse 9 (overfull es) ∷ []) s (accepted (with-task s t (Some es)))
 
--- each entry of the range altered by h, after a cut at its first page and after its last
+-- protect and inherit: each entry of the range altered by h, after a cut at its first page and after its last
 unfoldable pub set-over : (Entry → Entry) → State → ℕ → ℕ → ℕ → ℕ → Outcome
 set-over h s t start pages value =
     let es = altered entry-shape h start (start + pages) (table s t) in
@@ -152,6 +153,7 @@ unfoldable pub handed-all : State → ℕ → List Entry → State
 handed-all s child [] = s
 handed-all s child (e ∷ es) = handed-all (handed (e .inheritance) s child e) child es
 
+-- fork: a child with what the parent's entries give it
 unfoldable pub forked : State → ℕ → ℕ → Outcome
 forked s parent child =
     judged (refuse 2 (missing s parent || misnumbered child) ∷ refuse 3 (lives s child) ∷ []) s
@@ -176,11 +178,12 @@ unfoldable pub bytes-of : Content → List ℕ
 bytes-of (bytes bs) = bs
 bytes-of (damaged d) = []
 
--- the object and the page of a source; zeros have neither
+-- the object of a source; zeros have none
 unfoldable pub object-of : Source → ℕ
 object-of zeros = 0
 object-of (page-of m q) = m
 
+-- the page of a source; zeros have none
 unfoldable pub place-of : Source → ℕ
 place-of zeros = 0
 place-of (page-of m q) = q
@@ -190,6 +193,7 @@ unfoldable pub refuse-damage : Content → Source → ℕ → ℕ → Option Rep
 refuse-damage (bytes bs) from t address = None
 refuse-damage (damaged d) from t address = Some (faulty (record { pager = d; object = object-of from; page = place-of from; task = t; address = address }))
 
+-- read, with the entry that was found for the address: the bytes of its cell from the address's place on
 unfoldable pub read-from : Option Entry → State → ℕ → ℕ → ℕ → ℕ → ℕ → Outcome
 read-from found s memory t address n room =
     let e = valueOr found no-entry in
@@ -216,6 +220,7 @@ written c at new m = record { content = bytes (overlaid at new (bytes-of (c .con
 unfoldable pub after-write : State → Entry → ℕ → List ℕ → State
 after-write s e at new = with-cell s (e .sharing) (e .index) (written (cell-of s e) at new (s .writes))
 
+-- write, with the entry that was found for the address: new bytes and a new mark for its cell
 unfoldable pub write-to : Option Entry → State → ℕ → ℕ → ℕ → List ℕ → Outcome
 write-to found s memory t address new =
     let e = valueOr found no-entry in
@@ -234,9 +239,11 @@ write-to found s memory t address new =
 
 -- Exit and usage
 
+-- exit: the task and its entries end
 unfoldable pub ended : State → ℕ → Outcome
 ended s t = judged (refuse 2 (missing s t) ∷ []) s (accepted (with-task s t None))
 
+-- usage: the entries of all tasks, the living records, the different living marks, and F
 unfoldable pub counted : State → Outcome
 counted s = record { reply = counts (length (all-entries s)) (length (living-records s)) (length (living-marks s)) (s .frames); next = s }
 

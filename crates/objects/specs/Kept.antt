@@ -13,9 +13,11 @@ use Rattle.objects.specs.View.{backing, owner-of, top-of, in-use, is-held, wei
 abbrev pub Objects-few : Tables → Type 0
 Objects-few t = (o : ℕ) → 511 ≤ o → live (backing t o) ≡ false
 
+-- there are 256 records
 abbrev pub Records-few : Tables → Type 0
 Records-few t = (r : ℕ) → 256 ≤ r → in-use t r ≡ false
 
+-- there are 128 frames
 abbrev pub Frames-few : Tables → Type 0
 Frames-few t = (s : ℕ) → 128 ≤ s → is-held t s ≡ false
 

@@ -89,6 +89,7 @@ abbrev pub placeable-on : Tables → Option ℕ → ℕ → ℕ → Bool
 placeable-on t None i s = false
 placeable-on t (Some o) i s = placeable-at t o i s
 
+-- frame s can be put in the place for a write of record r at index i
 abbrev pub placeable : Tables → ℕ → ℕ → ℕ → Bool
 placeable t r i s = placeable-on t (top-of t r) i s
 
@@ -107,5 +108,6 @@ step-on None Free i = None
 step-on None (Root g) i = Some (Ends (source g i))
 step-on None (Shadow p) i = Some (Below p)
 
+-- by the frame and the row that it finds there
 abbrev pub step-at : Tables → ℕ → ℕ → Option Step
 step-at t o i = step-on (slot-of 128 (owner-of t) o i) (backing t o) i

@@ -17,9 +17,11 @@ use Rattle.pagers.specs.declared.extent.Extent.{Extent}
 use Rattle.pagers.specs.Images.{laid, place, stored, zeros}
 use Rattle.pagers.specs.Pattern.{counting, pattern-page, pattern}
 
+-- a pager without pages keeps the bounds
 pub nothing-bounded : Bounded nothing
 nothing-bounded = record { counts = λ m. omega arith; pages = λ m p below. absurd (omega arith) }
 
+-- the numbers that count up are as many as asked for
 pub length-counting : (b n : ℕ) → length (counting b n) ≡ n
 unfolding counting
 length-counting b zero = refl
@@ -31,6 +33,7 @@ counting-fits b zero k = omega arith
 counting-fits b (suc n) zero = mod-lt b (omega arith)
 counting-fits b (suc n) (suc k) = counting-fits (suc b) n k
 
+-- the pattern keeps the bounds
 pub pattern-bounded : Bounded pattern
 unfolding pattern pattern-page
 pattern-bounded = record {
@@ -38,12 +41,14 @@ pattern-bounded = record {
   pages = λ m p below. (length-counting (31 * p) 256, counting-fits (31 * p) 256);
 }
 
+-- a pair keeps the bounds that its two pagers keep
 pub paired-bounded : (s : ℕ) (A B : Meaning) → Bounded A → Bounded B → Bounded (paired s A B)
 paired-bounded s A B a b = record {
   counts = λ m. cond-both (ltb m s) _ _ (λ n. n ≤ 4096) (λ e. a .counts m) (λ e. b .counts (m - s));
   pages = λ m p. elim (ltb m s) as (λ t. p < cond t (A .count m) (B .count (m - s)) → Whole (cond t (A .page m p) (B .page (m - s) p))) [ true ↦ a .pages m p | false ↦ b .pages (m - s) p ];
 }
 
+-- a part of a list of bytes is one
 pub taken-fits : (n k i : ℕ) (xs : List ℕ) → ((j : ℕ) → getD xs j 0 < 256) → getD (take n (drop k xs)) i 0 < 256
 taken-fits n k i xs fits =
     elim (cases-lt i n) [
@@ -67,6 +72,7 @@ stored-whole body p (Some k) fits small =
     (λ e. (length-take-le 256 (drop k body) (omega (arith, leb-true _ _ e, length-drop k body)), λ i. taken-fits 256 k i body fits))
     (λ e. (omega arith, omega arith, omega arith, small))
 
+-- an image keeps the bounds
 pub laid-bounded : (pages : ℕ) (es : List Extent) (body : List ℕ) → pages ≤ 4096 → ((j : ℕ) → getD body j 0 < 256) → Bounded (laid pages es body)
 laid-bounded pages es body most fits = record {
   counts = λ m. cond-both (eqb m 0) pages 0 (λ n. n ≤ 4096) (λ e. most) (λ e. omega arith);

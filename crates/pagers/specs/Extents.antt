@@ -26,6 +26,7 @@ extent-shape = record {
   fits = λ e. ltb (e .position + 256 * e .pages) (2 ^ 64);
 }
 
+-- the two parts of a cut say of each page what the whole said
 pub extent-laws : Laws extent-shape
 extent-laws = record {
   front-first = λ e p above below. refl;

@@ -35,6 +35,7 @@ abbrev pub extents-from : List ℕ → ℕ → ℕ → List Extent
 extents-from file i zero = []
 extents-from file i (suc n) = extent-at file i ∷ extents-from file (i + 1) n
 
+-- all extents, in file order
 abbrev pub extents : List ℕ → List Extent
 extents file = extents-from file 0 (extent-count file)
 

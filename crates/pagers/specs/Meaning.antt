@@ -14,6 +14,7 @@ pub data Content : Type 0 where
   bytes : List ℕ → Content
   damaged : PagerFault → Content
 
+-- how many pages each object has, and what each page holds
 pub record Meaning : Type 0 where
   -- the number of pages of an object
   pub count : ℕ → ℕ

@@ -14,5 +14,6 @@ counting b (suc n) = (b % 256) ∷ counting (suc b) n
 unfoldable pub pattern-page : ℕ → List ℕ
 pattern-page p = counting (31 * p) 256
 
+-- what the pattern means
 unfoldable pub pattern : Meaning
 pattern = record { count = λ m. cond (eqb m 0) 64 0; page = λ m p. bytes (pattern-page p) }

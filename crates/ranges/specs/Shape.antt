@@ -4,6 +4,7 @@ use mathlib.Core.Bool.{Bool, true, _&&_}
 use Prim.Native.Nat.{ℕ, _+_, _-_, _<_, _≤_}
 use lib.Dec.{leb, ltb}
 
+-- where an element lies, what it says of each of its pages, and its parts
 pub record Shape (E : Type 0) : Type 0 where
   -- the first page, and the number of pages
   pub first : E → ℕ

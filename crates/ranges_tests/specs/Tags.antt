@@ -11,6 +11,7 @@ use Rattle.ranges_tests.specs.declared.tagged.Tagged.{Tagged}
 abbrev pub tagged-of : ℕ → ℕ → ℕ → Tagged
 tagged-of f n t = record { first = f; pages = n; tag = t }
 
+-- elements that say a tag
 abbrev pub tagged-shape : Shape Tagged
 tagged-shape = record {
   first = λ e. e .first;
@@ -21,6 +22,7 @@ tagged-shape = record {
   fits = λ e. true;
 }
 
+-- their parts say the same tag
 pub tagged-laws : Laws tagged-shape
 tagged-laws = record {
   front-first = λ e p above below. refl;

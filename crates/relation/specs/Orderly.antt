@@ -8,6 +8,7 @@ use Rattle.machine.specs.Entries.{entry-shape}
 use Rattle.machine.specs.State.{State, table}
 use Rattle.machine.specs.Step.{misnumbered}
 
+-- every table rises, and a number that no task has has an empty one
 pub record Orderly (s : State) : Type 0 where
   pub rises : (t : ℕ) → rising entry-shape 0 (table s t) ≡ true
   pub numbered : (t : ℕ) → misnumbered t ≡ true → table s t ≡ []
