@@ -1,10 +1,3 @@
-pub mod Scanning
-pub mod Following
-pub mod Counting
-pub mod Aiming
-pub mod Altering
-pub mod Unmapping
-pub mod Attaching
-pub mod Maps
-pub mod Forking
-pub mod Reading
+pub mod Tasks
+pub mod Relation
+pub mod Places

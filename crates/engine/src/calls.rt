@@ -1,18 +1,22 @@
 // The calls, each answered as the copying machine answers it.
-ghost use Rattle.std.specs.Prelude.{◌≡◌, ℕ, min, false, List, is_ok};
+ghost use Rattle.std.specs.Prelude.{◌≡◌, ◌<◌, min, Bool, true, false, cond, is_ok};
 ghost use Rattle.pagers.specs.Meaning.{Meaning};
-ghost use Rattle.machine.specs.Calls.{create, map_pages, unmap, protect, inherit, fork, exit};
+ghost use Rattle.machine.specs.Calls.{create, exit, usage, refused};
 ghost use Rattle.machine.specs.State.{State, start};
-ghost use Rattle.relation.specs.Sources.{source_of};
-ghost use Rattle.engine.specs.Relation.{Represents, Follows, outcome, Numbered};
+ghost use Rattle.engine.specs.Relation.{Represents, Follows, outcome, counted, place_of, refusal};
+ghost use Rattle.engine.specs.Places.{free_place_of, living_place_of, Within};
 
-use crate::alter::{inheriting, protecting};
-use crate::engine::{Engine, Refusal};
-use crate::mapping::{fresh, has_pages, has_room};
-use chains::Origin;
-use objects::Store;
-use pagers::Pager;
-use tasks::Task;
+use crate::engine::{Engine, Refusal, Usage};
+
+// The place of a task in the engine's rows.
+fn place(task: u8) -> Option<usize>
+    ensures { result ≡ place_of task }
+{
+    match task {
+        1..=16 => Some(task as usize - 1),
+        _ => None,
+    }
+}
 
 // How many frames an engine has.
 fn frames_of(n: usize) -> u8
@@ -24,20 +28,25 @@ fn frames_of(n: usize) -> u8
 impl Refusal {
     // The refusal's number in the table of answers.
     pub fn number(self) -> u8
-        ensures { Numbered self result }
+        ensures { refusal self ≡ refused result }
     {
         match self {
-            Refusal::BadMemory => 1,
             Refusal::NoTask => 2,
             Refusal::Living => 3,
-            Refusal::BadRange => 4,
-            Refusal::BadValue => 5,
-            Refusal::Mapped => 6,
-            Refusal::Unmapped => 7,
-            Refusal::Uncovered => 8,
-            Refusal::Full => 9,
-            Refusal::Protected => 10,
-            Refusal::Damaged(_) => 12,
+        }
+    }
+}
+
+impl Usage {
+    // The usage of an engine whose tasks have no entries.
+    fn without_entries(frames: u8) -> Usage
+        ensures { result ≡ record { entries = 0; records = 0; marks = 0; frames = frames } }
+    {
+        Usage {
+            entries: 0,
+            records: 0,
+            marks: 0,
+            frames: u32::from(frames),
         }
     }
 }
@@ -45,108 +54,66 @@ impl Refusal {
 impl Engine {
     // A new engine has the smaller of n and 128 frames, and no task.
     pub fn new(n: usize) -> Engine
-        ensures { (memory : List ℕ) (M : Meaning) → Represents result memory M (start n) }
+        ensures { Represents result (start n) }
     {
         Engine {
             frames: frames_of(n),
-            tasks: [Task::idle(); 16],
-            store: Store::new(),
+            living: [false; 16],
         }
+    }
+
+    // Where a task can be made.
+    fn free_place(&self, task: u8) -> Result<usize, Refusal>
+        ensures value { result ≡ free_place_of self.now.living task }
+        ensures within { Within result }
+    {
+        let Some(at) = place(task) else {
+            return Err(Refusal::NoTask);
+        };
+        if self.living[at] {
+            return Err(Refusal::Living);
+        }
+        Ok(at)
+    }
+
+    // Where a living task is.
+    fn living_place(&self, task: u8) -> Result<usize, Refusal>
+        ensures value { result ≡ living_place_of self.now.living task }
+        ensures within { Within result }
+    {
+        let Some(at) = place(task) else {
+            return Err(Refusal::NoTask);
+        };
+        if !self.living[at] {
+            return Err(Refusal::NoTask);
+        }
+        Ok(at)
     }
 
     // Makes a task without entries.
     pub fn create(&mut self, task: u8) -> Result<(), Refusal>
         ensures refusal { is_ok result ≡ false → self.new ≡ self.old }
-        ensures machine { (memory : List ℕ) (M : Meaning) (s : State) → Represents self.old memory M s → Follows memory M s (create task) (outcome result) self.new }
+        ensures machine { (M : Meaning) (s : State) → Represents self.old s → Follows M s (create task) (outcome result) self.new }
     {
         let at = self.free_place(task)?;
-        self.retable(at, Task::started());
+        self.living[at] = true;
         Ok(())
     }
 
-    // Makes a task with what the entries of another one give it: nothing, the same entry on the same record, or an equal
-    // entry on a new record, by their inheritance.
-    pub fn fork(&mut self, parent: u8, child: u8) -> Result<(), Refusal>
-        ensures refusal { is_ok result ≡ false → self.new ≡ self.old }
-        ensures machine { (memory : List ℕ) (M : Meaning) (s : State) → Represents self.old memory M s → Follows memory M s (fork parent child) (outcome result) self.new }
-    {
-        let from = self.living_place(parent)?;
-        let at = self.free_place(child)?;
-        let row = self.row(from);
-        self.retable(at, Task::started());
-        self.hand_all(at, &row.rows[0..row.len]);
-        Ok(())
-    }
-
-    // Ends a task and its entries.
+    // Ends a task.
     pub fn exit(&mut self, task: u8) -> Result<(), Refusal>
         ensures refusal { is_ok result ≡ false → self.new ≡ self.old }
-        ensures machine { (memory : List ℕ) (M : Meaning) (s : State) → Represents self.old memory M s → Follows memory M s (exit task) (outcome result) self.new }
+        ensures machine { (M : Meaning) (s : State) → Represents self.old s → Follows M s (exit task) (outcome result) self.new }
     {
         let at = self.living_place(task)?;
-        self.settle(at, Task::idle());
+        self.living[at] = false;
         Ok(())
     }
 
-    // Maps a range of pages over an origin: an entry on a new record, with indices from 0.
-    pub fn map<P: Pager>(
-        &mut self,
-        pager: &mut P,
-        task: u8,
-        start: u16,
-        pages: u16,
-        origin: Origin,
-    ) -> Result<(), Refusal>
-        ensures refusal { is_ok result ≡ false → self.new ≡ self.old }
-        ensures pager { P.Pager.meaning pager.new ≡ P.Pager.meaning pager.old }
-        ensures machine { (memory : List ℕ) (s : State) → Represents self.old memory (P.Pager.meaning pager.old) s → Follows memory (P.Pager.meaning pager.old) s (map_pages task start pages (source_of origin)) (outcome result) self.new }
+    // How much is in use. No task has an entry yet.
+    pub fn usage(&self) -> Usage
+        ensures { (M : Meaning) (s : State) → Represents self.now s → Follows M s usage (counted result) self.now }
     {
-        let (at, range) = self.target(task, start, pages)?;
-        let row = self.row(at);
-        if row.meets(&fresh(range, 0)) {
-            return Err(Refusal::Mapped);
-        }
-        if !has_pages(pager, origin, pages) {
-            return Err(Refusal::Uncovered);
-        }
-        if !has_room(&row) {
-            return Err(Refusal::Full);
-        }
-        self.attach(at, range, origin);
-        Ok(())
-    }
-
-    // Takes the pages of a range out of a task's table.
-    pub fn unmap(&mut self, task: u8, start: u16, pages: u16) -> Result<(), Refusal>
-        ensures refusal { is_ok result ≡ false → self.new ≡ self.old }
-        ensures machine { (memory : List ℕ) (M : Meaning) (s : State) → Represents self.old memory M s → Follows memory M s (unmap task start pages) (outcome result) self.new }
-    {
-        let (at, range) = self.target(task, start, pages)?;
-        let mut row = self.row(at);
-        if !row.remove(range) {
-            return Err(Refusal::Full);
-        }
-        self.settle(at, row);
-        Ok(())
-    }
-
-    // Gives the pages of a range a protection: 0 none, 1 read, 2 read and write.
-    pub fn protect(&mut self, task: u8, start: u16, pages: u16, value: u8) -> Result<(), Refusal>
-        ensures refusal { is_ok result ≡ false → self.new ≡ self.old }
-        ensures machine { (memory : List ℕ) (M : Meaning) (s : State) → Represents self.old memory M s → Follows memory M s (protect task start pages value) (outcome result) self.new }
-    {
-        let (at, range) = self.target(task, start, pages)?;
-        let by = protecting(value)?;
-        self.alter(at, range, &by)
-    }
-
-    // Gives the pages of a range an inheritance: 0 none, 1 share, 2 copy.
-    pub fn inherit(&mut self, task: u8, start: u16, pages: u16, value: u8) -> Result<(), Refusal>
-        ensures refusal { is_ok result ≡ false → self.new ≡ self.old }
-        ensures machine { (memory : List ℕ) (M : Meaning) (s : State) → Represents self.old memory M s → Follows memory M s (inherit task start pages value) (outcome result) self.new }
-    {
-        let (at, range) = self.target(task, start, pages)?;
-        let by = inheriting(value)?;
-        self.alter(at, range, &by)
+        Usage::without_entries(self.frames)
     }
 }

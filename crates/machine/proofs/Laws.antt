@@ -1,6 +1,6 @@
 -- The machine's own laws.
-use Rattle.std.proofs.Common.{◌≡◌, ℕ, suc, ◌%◌, ◌<◌, ◌≤◌, Bool, true, false, cond, not, ◌&&◌, eqb, List, [], ◌∷◌, Some, None, Option, sym, refl, ap, ◌∙◌, subst, arith}
-use Rattle.std.proofs.lemmas.Bool.{both_ways, cond_both, eq-eqb, and_parts, not-true}
+use Rattle.std.proofs.Common.{◌≡◌, ℕ, suc, ◌%◌, ◌<◌, ◌≤◌, Bool, true, false, cond, ◌&&◌, eqb, List, [], ◌∷◌, Some, None, Option, sym, refl, ap, ◌∙◌, subst, arith}
+use Rattle.std.proofs.lemmas.Bool.{both_ways, cond_both, eq-eqb}
 use Rattle.pagers.specs.Meaning.{Content, Meaning, bytes, damaged}
 use Rattle.machine.specs.declared.words.Entry.{Entry}
 use Rattle.machine.specs.declared.words.Inheritance.{Inheritance}
@@ -8,7 +8,7 @@ use Rattle.machine.specs.declared.words.Inheritance.TheVariants.{Share, Copy, No
 use Rattle.machine.specs.Calls.{Source, Call, create, map_pages, unmap, protect, inherit, fork, write, read, exit, usage, done}
 use Rattle.machine.specs.State.{Cell, State, content_of, untouched, along, start, table, new_record}
 use Rattle.machine.specs.Step.{Outcome, judged, accepted, created, mapped, map_on, unmapped, set_over, forked, handed, handed_all, given, copied_on, read_from, write_to, after_write, written, ended, counted, with_task, with_record, with_cell, refuse_damage, cell_of, entry_at, step, after}
-use Rattle.machine.specs.Laws.{refuses, RefusalsKeep, Sourced, SourcesKept, is_write, unwritten, MarksWritten, MarksNew}
+use Rattle.machine.specs.Laws.{refuses, RefusalsKeep, Sourced, SourcesKept, NewMark, MarksNew}
 use Rattle.machine.proofs.Judged.{judged_keeps, judged_both, judged_done, passed, next_test, Refusing, refuse_refuses}
 
 pub refusals_keep : RefusalsKeep
@@ -24,15 +24,12 @@ refusals_keep M s (read m t a n room) e = judged_keeps _ _ _ refl e
 refusals_keep M s (exit t) e = judged_keeps _ _ _ refl e
 refusals_keep M s usage e = refl
 
--- a fact about states that every change of the machine but a write keeps
+-- a fact about states that every change of the machine keeps
 record Kept (M : Meaning) (P : State → Type 0) : Type 0 where
   tasks : (s : State) (t : ℕ) (es : Option (List Entry)) → P s → P (with_task s t es)
   mapped_cells : (s : State) (r : ℕ) (from : Source) → P s → P (with_record s r (λ i. untouched M (along i from)))
   copied_cells : (s : State) (r q : ℕ) → P s → P (with_record s r (s.cells q))
-
--- and a write
-abbrev KeptWritten : (State → Type 0) → Type 0
-KeptWritten P = (s : State) (e : Entry) (at : ℕ) (new : List ℕ) → P s → P (after_write s e at new)
+  wrote : (s : State) (e : Entry) (at : ℕ) (new : List ℕ) → P s → P (after_write s e at new)
 
 module _ {M : Meaning} {P : State → Type 0} (K : Kept M P) where
   handed_keeps : (how : Inheritance) (s : State) (child : ℕ) (e : Entry) → P s → P (handed how s child e)
@@ -46,31 +43,23 @@ module _ {M : Meaning} {P : State → Type 0} (K : Kept M P) where
   handed_all_keeps s child [] h = h
   handed_all_keeps s child (e ∷ es) h = handed_all_keeps (handed e.inheritance s child e) child es (handed_keeps e.inheritance s child e h)
 
-  step_keeps : (s : State) (call : Call) → (is_write call ≡ true → KeptWritten P) → P s → P (step M s call).next
+  step_keeps : (s : State) (call : Call) → P s → P (step M s call).next
   unfolding step created mapped map_on unmapped set_over forked read_from write_to ended counted accepted
-  step_keeps s (create t) w h = judged_both P _ s _ h (K.tasks _ _ _ h)
-  step_keeps s (map_pages t f n from) w h = judged_both P _ s _ h (K.tasks _ _ _ (K.mapped_cells _ _ _ h))
-  step_keeps s (unmap t f n) w h = judged_both P _ s _ h (K.tasks _ _ _ h)
-  step_keeps s (protect t f n v) w h = judged_both P _ s _ h (K.tasks _ _ _ h)
-  step_keeps s (inherit t f n v) w h = judged_both P _ s _ h (K.tasks _ _ _ h)
-  step_keeps s (fork a b) w h = judged_both P _ s _ h (handed_all_keeps _ _ _ (K.tasks _ _ _ h))
-  step_keeps s (write m t a new) w h = judged_both P _ s _ h (w refl _ _ _ _ h)
-  step_keeps s (read m t a n room) w h = judged_both P _ s _ h h
-  step_keeps s (exit t) w h = judged_both P _ s _ h (K.tasks _ _ _ h)
-  step_keeps s usage w h = h
+  step_keeps s (create t) h = judged_both P _ s _ h (K.tasks _ _ _ h)
+  step_keeps s (map_pages t f n from) h = judged_both P _ s _ h (K.tasks _ _ _ (K.mapped_cells _ _ _ h))
+  step_keeps s (unmap t f n) h = judged_both P _ s _ h (K.tasks _ _ _ h)
+  step_keeps s (protect t f n v) h = judged_both P _ s _ h (K.tasks _ _ _ h)
+  step_keeps s (inherit t f n v) h = judged_both P _ s _ h (K.tasks _ _ _ h)
+  step_keeps s (fork a b) h = judged_both P _ s _ h (handed_all_keeps _ _ _ (K.tasks _ _ _ h))
+  step_keeps s (write m t a new) h = judged_both P _ s _ h (K.wrote _ _ _ _ h)
+  step_keeps s (read m t a n room) h = judged_both P _ s _ h h
+  step_keeps s (exit t) h = judged_both P _ s _ h (K.tasks _ _ _ h)
+  step_keeps s usage h = h
 
-  after_keeps : KeptWritten P → (s : State) (calls : List Call) → P s → P (after M s calls)
+  after_keeps : (s : State) (calls : List Call) → P s → P (after M s calls)
   unfolding after
-  after_keeps w s [] h = h
-  after_keeps w s (call ∷ calls) h = after_keeps w (step M s call).next calls (step_keeps s call (λ e. w) h)
-
-  -- in a run without a write
-  unwritten_keeps : (s : State) (calls : List Call) → unwritten calls ≡ true → P s → P (after M s calls)
-  unfolding after
-  unwritten_keeps s [] none h = h
-  unwritten_keeps s (call ∷ calls) none h =
-      let parts = and_parts (not (is_write call)) (unwritten calls) none in
-      unwritten_keeps (step M s call).next calls parts.1 (step_keeps s call (λ e. absurd (both_ways (is_write call) (not-true (is_write call) parts.0) e)) h)
+  after_keeps s [] h = h
+  after_keeps s (call ∷ calls) h = after_keeps (step M s call).next calls (step_keeps s call h)
 
 -- what holds of the new cells and of the old ones holds of all cells of a state with a new record
 record_both : (Q : Cell → Type 0) (s : State) (r : ℕ) (cells : ℕ → Cell) → ((i : ℕ) → Q (cells i)) → ((u i : ℕ) → Q (s.cells u i)) → (u i : ℕ) → Q ((with_record s r cells).cells u i)
@@ -98,40 +87,17 @@ unfolding written
 true_written M c at new m e = absurd (some_none m e)
 
 sourced_kept : (M : Meaning) → Kept M (Sourced M)
-unfolding with_task
+unfolding with_task after_write
 sourced_kept M = record {
   tasks = λ s t es h. h;
   mapped_cells = λ s r from h. record_both (TrueTo M) s r _ (λ i. true_untouched M (along i from)) h;
   copied_cells = λ s r q h. record_both (TrueTo M) s r (s.cells q) (h q) h;
+  wrote = λ s e at new h. cell_both (TrueTo M) s e.sharing e.index _ (true_written M (cell_of s e) at new s.writes) h;
 }
-
-sourced_written : (M : Meaning) → KeptWritten (Sourced M)
-unfolding after_write
-sourced_written M s e at new h = cell_both (TrueTo M) s e.sharing e.index _ (true_written M (cell_of s e) at new s.writes) h
 
 pub sources_kept : SourcesKept
 unfolding start content_of
-sources_kept M n calls = after_keeps (sourced_kept M) (sourced_written M) (start n) calls (λ r i e. refl)
-
--- every cell is unmarked
-abbrev Unmarked : State → Type 0
-Unmarked s = (r i : ℕ) → (s.cells r i).mark ≡ None
-
-none_untouched : (M : Meaning) (from : Source) → (untouched M from).mark ≡ None
-unfolding untouched
-none_untouched M from = refl
-
-unmarked_kept : (M : Meaning) → Kept M Unmarked
-unfolding with_task
-unmarked_kept M = record {
-  tasks = λ s t es h. h;
-  mapped_cells = λ s r from h. record_both (λ c. c.mark ≡ None) s r _ (λ i. none_untouched M (along i from)) h;
-  copied_cells = λ s r q h. record_both (λ c. c.mark ≡ None) s r (s.cells q) (h q) h;
-}
-
-pub marks_written : MarksWritten
-unfolding start
-marks_written M n calls none = unwritten_keeps (unmarked_kept M) (start n) calls none (λ r i. refl)
+sources_kept M n calls = after_keeps (sourced_kept M) (start n) calls (λ r i e. refl)
 
 -- the cell's mark, if it has one, is below n
 abbrev BelowNumber : ℕ → Cell → Type 0
@@ -153,58 +119,36 @@ unfolding written
 below_written c at new n m e = let same : n ≡ m = same_number n m e in omega arith
 
 numbered_kept : (M : Meaning) → Kept M Numbered
-unfolding with_task with_record
+unfolding with_task with_record after_write with_cell
 numbered_kept M = record {
   tasks = λ s t es h. h;
   mapped_cells = λ s r from h. record_both (BelowNumber s.writes) s r _ (λ i. below_untouched M (along i from) s.writes) h;
   copied_cells = λ s r q h. record_both (BelowNumber s.writes) s r (s.cells q) (h q) h;
+  wrote = λ s e at new h.
+      cell_both (BelowNumber (suc s.writes)) s e.sharing e.index _ (below_written (cell_of s e) at new s.writes)
+      (λ u i m k. let low : m < s.writes = h u i m k in omega arith);
 }
-
-numbered_written : KeptWritten Numbered
-unfolding after_write with_cell
-numbered_written s e at new h =
-    cell_both (BelowNumber (suc s.writes)) s e.sharing e.index _ (below_written (cell_of s e) at new s.writes)
-    (λ u i m k. let low : m < s.writes = h u i m k in omega arith)
 
 numbered_after : (M : Meaning) (n : ℕ) (calls : List Call) → Numbered (after M (start n) calls)
 unfolding start
-numbered_after M n calls = after_keeps (numbered_kept M) numbered_written (start n) calls (λ r i m e. absurd (some_none m (sym e)))
+numbered_after M n calls = after_keeps (numbered_kept M) (start n) calls (λ r i m e. absurd (some_none m (sym e)))
 
 -- the next write's number never falls
 AtLeast : ℕ → State → Type 0
 AtLeast n s = n ≤ s.writes
 
 at_least_kept : (M : Meaning) (n : ℕ) → Kept M (AtLeast n)
-unfolding with_task with_record AtLeast
+unfolding with_task with_record with_cell after_write AtLeast
 at_least_kept M n = record {
   tasks = λ s t es h. h;
   mapped_cells = λ s r from h. h;
   copied_cells = λ s r q h. h;
+  wrote = λ s e at new h. omega arith;
 }
-
-at_least_written : (n : ℕ) → KeptWritten (AtLeast n)
-unfolding with_cell after_write AtLeast
-at_least_written n s e at new h = omega arith
 
 rises : (M : Meaning) (s : State) (calls : List Call) → s.writes ≤ (after M s calls).writes
 unfolding AtLeast
-rises M s calls = after_keeps (at_least_kept M s.writes) (at_least_written s.writes) s calls (omega arith)
-
--- no call changes the number of frames
-OfFrames : ℕ → State → Type 0
-OfFrames F s = s.frames ≡ F
-
-of_frames_kept : (M : Meaning) (F : ℕ) → Kept M (OfFrames F)
-unfolding with_task with_record OfFrames
-of_frames_kept M F = record { tasks = λ s t es h. h; mapped_cells = λ s r from h. h; copied_cells = λ s r q h. h }
-
-of_frames_written : (F : ℕ) → KeptWritten (OfFrames F)
-unfolding with_cell after_write OfFrames
-of_frames_written F s e at new h = h
-
-pub frames_same : (M : Meaning) (s : State) (call : Call) → (step M s call).next.frames ≡ s.frames
-unfolding OfFrames
-frames_same M s call = step_keeps (of_frames_kept M s.frames) s call (λ e. of_frames_written s.frames) refl
+rises M s calls = after_keeps (at_least_kept M s.writes) s calls (omega arith)
 
 damage_refuses : (c : Content) (from : Source) (t address : ℕ) → Refusing (refuse_damage c from t address)
 unfolding refuse_damage

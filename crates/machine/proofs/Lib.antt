@@ -1,3 +1,3 @@
 pub mod Judged
-pub mod Laws
+mod Laws
 mod Examples

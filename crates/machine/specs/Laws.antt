@@ -1,8 +1,8 @@
 -- Laws of the copying machine itself.
-use Rattle.std.specs.Prelude.{◌≡◌, ℕ, Bool, true, false, not, ◌&&◌, List, [], ◌∷◌, Some, None, Option, ◌≢◌}
+use Rattle.std.specs.Prelude.{◌≡◌, ℕ, Bool, true, false, List, Some, None, Option, ◌≢◌}
 use Rattle.pagers.specs.Meaning.{Meaning}
 use Rattle.machine.specs.declared.words.Entry.{Entry}
-use Rattle.machine.specs.Calls.{Call, create, map_pages, unmap, protect, inherit, fork, write, read, exit, usage, Reply, done, gives, counts, refused, faulty}
+use Rattle.machine.specs.Calls.{Call, write, Reply, done, gives, counts, refused, faulty}
 use Rattle.machine.specs.State.{Cell, State, content_of, start}
 use Rattle.machine.specs.Step.{Outcome, entry_at, step, after}
 
@@ -25,28 +25,6 @@ Sourced M s = (r i : ℕ) → (s.cells r i).mark ≡ None → (s.cells r i).cont
 -- so it is after every run, for each cell, living or not
 abbrev pub SourcesKept : Type 0
 SourcesKept = (M : Meaning) (n : ℕ) (calls : List Call) → Sourced M (after M (start n) calls)
-
--- the call is a write
-abbrev pub is_write : Call → Bool
-is_write (create t) = false
-is_write (map_pages t start pages from) = false
-is_write (unmap t start pages) = false
-is_write (protect t start pages value) = false
-is_write (inherit t start pages value) = false
-is_write (fork parent child) = false
-is_write (write memory t address new) = true
-is_write (read memory t address n room) = false
-is_write (exit t) = false
-is_write usage = false
-
--- none of the calls is a write
-abbrev pub unwritten : List Call → Bool
-unwritten [] = true
-unwritten (call ∷ calls) = not (is_write call) && unwritten calls
-
--- a mark comes from a write: a run without one leaves every cell unmarked
-abbrev pub MarksWritten : Type 0
-MarksWritten = (M : Meaning) (n : ℕ) (calls : List Call) → unwritten calls ≡ true → (r i : ℕ) → ((after M (start n) calls).cells r i).mark ≡ None
 
 -- a write on a state gave the cell at an address of a task a mark that no cell had in an earlier state
 pub record NewMark (earlier s next : State) (t address : ℕ) : Type 0 where

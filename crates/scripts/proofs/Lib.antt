@@ -1,1 +1,3 @@
-pub mod Telling
+pub mod Joining
+pub mod Reading
+pub mod Performing

@@ -1,74 +1,64 @@
 -- The transcript of a script: what the copying machine answers to its records, line by line.
-use Rattle.std.specs.Prelude.{ℕ, suc, Bool, true, false, cond, ◌&&◌, List, [], ◌∷◌, ◌++◌, length, Some, None, codes, Option, nat_le, nat_lt}
-use Rattle.std.specs.List.{flat_map}
-use Rattle.std.specs.Option.{option_to_list}
-use Rattle.pagers.specs.Images.{image_good, image_meaning}
-use Rattle.pagers.specs.Meaning.{Meaning, nothing, paired}
-use Rattle.pagers.specs.Pattern.{pattern}
-use Rattle.machine.specs.Calls.{Call, create, map_pages, unmap, protect, inherit, fork, write, read, exit, usage, Reply}
-use Rattle.machine.specs.State.{start}
-use Rattle.machine.specs.Step.{replies}
-use Rattle.reader.specs.Records.{Item, call, malformed, cut_short, items}
-use Rattle.lines.specs.Text.{Answer, replied, malformed as wrong, cut_short as short, line}
+use Rattle.std.specs.Prelude.{◌≡◌, ℕ, suc, Bool, true, false, cond, List, [], ◌∷◌, ◌++◌, length, codes, nat_lt}
+use Rattle.pagers.specs.Meaning.{Meaning}
+use Rattle.machine.specs.Calls.{Call, create, map_pages, unmap, protect, inherit, fork, write, read, exit, usage}
+use Rattle.machine.specs.State.{State, start}
+use Rattle.machine.specs.Step.{step}
+use Rattle.engine.specs.declared.engine.Engine.{Engine}
+use Rattle.engine.specs.Relation.{Represents, refusal, counted}
+use Rattle.scripts.specs.declared.console.Answer.{Answer as Given}
+use Rattle.scripts.specs.declared.console.Answer.TheVariants.{Done, Counts, Refused, Malformed, CutShort}
+use Rattle.scripts.specs.Records.{Item, call, malformed, cut_short, items}
+use Rattle.scripts.specs.Text.{Answer, replied, malformed as wrong, cut_short as short, line}
+use Rattle.machine.specs.Calls.{done}
 
--- the calls that the engine has so far; a record of any other is answered like an unknown operation
+-- the calls that the engine performs so far; a record of any other is answered like an unknown operation
 abbrev pub performed : Call → Bool
 performed (create t) = true
-performed (map_pages t start pages from) = true
-performed (unmap t start pages) = true
-performed (protect t start pages value) = true
-performed (inherit t start pages value) = true
-performed (fork parent child) = true
+performed (map_pages t start pages from) = false
+performed (unmap t start pages) = false
+performed (protect t start pages value) = false
+performed (inherit t start pages value) = false
+performed (fork parent child) = false
 performed (write memory t address new) = false
-performed (read memory t address n room) = true
+performed (read memory t address n room) = false
 performed (exit t) = true
 performed usage = true
 
--- the call that a record asks for, if any
-abbrev pub asked : Item → Option Call
-asked (call c) = cond (performed c) (Some c) None
-asked malformed = None
-asked cut_short = None
+-- what a record is answered in a state
+unfoldable pub answered : Meaning → State → Item → Answer
+answered M s (call c) = cond (performed c) (replied (step M s c).reply) wrong
+answered M s malformed = wrong
+answered M s cut_short = short
 
--- the calls that records ask for, in order
-abbrev pub calls_in : List Item → List Call
-calls_in is = flat_map (λ i. option_to_list (asked i)) is
+-- the state after a record
+unfoldable pub moved : Meaning → State → Item → State
+moved M s (call c) = cond (performed c) (step M s c).next s
+moved M s malformed = s
+moved M s cut_short = s
 
--- what a record without a reply is answered
-abbrev pub unasked : Item → Answer
-unasked (call c) = wrong
-unasked malformed = wrong
-unasked cut_short = short
+-- the lines for records, the first of them with number n
+unfoldable pub lines : Meaning → ℕ → State → List Item → List ℕ
+lines M n s [] = []
+lines M n s (i ∷ is) = line n (answered M s i) ++ lines M (suc n) (moved M s i) is
 
--- the answer to a record: the first reply left, if it asks for a call
-abbrev pub answer_to : Item → Option Call → List Reply → Answer
-answer_to i None rs = unasked i
-answer_to i (Some c) [] = unasked i
-answer_to i (Some c) (r ∷ rs) = replied r
-
--- the replies left after it
-abbrev pub left_after : Option Call → List Reply → List Reply
-left_after None rs = rs
-left_after (Some c) [] = []
-left_after (Some c) (r ∷ rs) = rs
-
--- the lines for records, the first of them with number n, by the replies to their calls
-unfoldable pub lines : ℕ → List Item → List Reply → List ℕ
-lines n [] rs = []
-lines n (i ∷ is) rs = line n (answer_to i (asked i) rs) ++ lines (suc n) is (left_after (asked i) rs)
-
--- the transcript of a script on a new machine of 128 frames, over a pager of the meaning
+-- the transcript of a script on a new machine of 128 frames
 unfoldable pub transcript_of : Meaning → List ℕ → List ℕ
-transcript_of M script = lines 1 (items script) (replies M (start 128) (calls_in (items script)))
-
--- what an image file means to the program: one of over 16,384 bytes, or one that is refused, has no pages
-abbrev pub image_of : List ℕ → Meaning
-image_of file = cond (nat_le (length file) 16384 && image_good file) (image_meaning file) nothing
-
--- the program's pager: object 0 is the pattern's, and object 1 the image's
-abbrev pub console_pager : List ℕ → Meaning
-console_pager file = paired 1 pattern (image_of file)
+transcript_of M script = lines M 1 (start 128) (items script)
 
 -- what the program prints: a script of more than 16,384 bytes is not performed
-abbrev pub printed_text : List ℕ → List ℕ → List ℕ
-printed_text input file = cond (nat_lt 16384 (length input)) (codes "too long\n") (transcript_of (console_pager file) input)
+abbrev pub printed_text : Meaning → List ℕ → List ℕ
+printed_text M input = cond (nat_lt 16384 (length input)) (codes "too long\n") (transcript_of M input)
+
+-- an answer of the program as the machine's
+abbrev pub answer_of : Given → Answer
+answer_of Done = replied done
+answer_of (Counts u) = replied (counted u)
+answer_of (Refused r) = replied (refusal r)
+answer_of Malformed = wrong
+answer_of CutShort = short
+
+-- the program answered a record as the machine does, and its engine stands for the machine's next state
+pub record Answers (M : Meaning) (s : State) (i : Item) (a : Given) (e : Engine) : Type 0 where
+  pub answer : answer_of a ≡ answered M s i
+  pub next : Represents e (moved M s i)

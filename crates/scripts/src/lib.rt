@@ -1,5 +1,8 @@
-// Scripts performed on the memory engine, and the transcripts that answer them.
-mod answer;
+// Scripts of commands to the memory engine, and the transcripts that answer them.
 mod console;
+mod lines;
+mod reader;
 
 pub use console::{printed, transcript};
+pub use lines::{push_bytes, push_counts, push_numbers, push_plain};
+pub use reader::{Command, Record, count_records, next_record};

@@ -1,5 +1,165 @@
-// Tests of the script reader, of the lines of a transcript, and of whole scripts.
+// Tests of the script reader and of the lines of a transcript.
 #[cfg(test)]
-mod parts;
-#[cfg(test)]
-mod whole;
+mod tests {
+    use scripts::{
+        Command, Record, count_records, next_record, printed, push_bytes, push_counts,
+        push_numbers, push_plain,
+    };
+    use std::test::Fail;
+
+    // Create, map object, fork, write, two reads, usage.
+    const SAMPLE: [u8; 53] = [
+        0, 2, 1, 1, 0, 10, 3, 1, 0, 4, 0, 2, 0, 0, 0, 2, 0, 3, 7, 1, 2, 0, 7, 8, 1, 0, 0, 4, 0,
+        0xaa, 0, 8, 9, 2, 0, 0, 4, 0, 0, 1, 0, 8, 9, 1, 0, 0, 4, 0, 0, 2, 0, 1, 11,
+    ];
+
+    // A record's operation; 13 for a malformed one, 14 for one that is cut short.
+    fn kind(record: Record) -> u8 {
+        match record {
+            Record::Command(Command::Create { .. }) => 1,
+            Record::Command(Command::MapZero { .. }) => 2,
+            Record::Command(Command::MapObject { .. }) => 3,
+            Record::Command(Command::Unmap { .. }) => 4,
+            Record::Command(Command::Protect { .. }) => 5,
+            Record::Command(Command::Inherit { .. }) => 6,
+            Record::Command(Command::Fork { .. }) => 7,
+            Record::Command(Command::Write { .. }) => 8,
+            Record::Command(Command::Read { .. }) => 9,
+            Record::Command(Command::Exit { .. }) => 10,
+            Record::Command(Command::Usage) => 11,
+            Record::Malformed => 13,
+            Record::CutShort => 14,
+        }
+    }
+
+    // The script has records of these kinds and no other.
+    fn reads(script: &[u8], kinds: &[u8]) -> bool {
+        let mut rest = script;
+        for expected in kinds {
+            match next_record(rest) {
+                Some((record, after)) => {
+                    if kind(record) != *expected {
+                        return false;
+                    }
+                    rest = after;
+                }
+                None => return false,
+            }
+        }
+        rest.is_empty()
+    }
+
+    #[test]
+    fn sample(rt: HostRuntime) {
+        assert!(rt; reads(&SAMPLE, &[1, 3, 7, 8, 9, 9, 11]));
+        assert_eq!(rt; count_records(&SAMPLE), 7);
+    }
+
+    #[test]
+    fn fields(rt: HostRuntime) {
+        let map = [0, 10, 3, 1, 0, 4, 1, 2, 0, 5, 0, 6];
+        assert!(rt;
+            matches!(
+                next_record(&map),
+                Some((
+                    Record::Command(Command::MapObject {
+                        task: 1,
+                        start: 4,
+                        pages: 258,
+                        object: 5,
+                        first: 6
+                    }),
+                    []
+                ))
+            )
+        );
+        let write = [0, 7, 8, 9, 1, 2, 3, 4, 0xaa, 0];
+        assert!(rt;
+            matches!(
+                next_record(&write),
+                Some((
+                    Record::Command(Command::Write {
+                        task: 9,
+                        address: 0x01020304,
+                        bytes: [0xaa]
+                    }),
+                    [0]
+                ))
+            )
+        );
+    }
+
+    #[test]
+    fn cut_short(rt: HostRuntime) {
+        let fork = [0, 3, 7, 1, 2];
+        assert!(rt; reads(&[], &[]));
+        for n in 1..5 {
+            assert!(rt; reads(&fork[0..n], &[14]));
+        }
+        assert!(rt; reads(&fork, &[7]));
+        assert!(rt; reads(&[0, 1, 11, 255, 255, 12], &[11, 14]));
+    }
+
+    #[test]
+    fn malformed(rt: HostRuntime) {
+        assert!(rt; reads(&[0, 0], &[13]));
+        assert!(rt; reads(&[0, 0, 0, 1, 11], &[13, 11]));
+        assert!(rt; reads(&[0, 1, 0, 0, 1, 12, 0, 1, 255], &[13, 13, 13]));
+        assert!(rt;
+            reads(
+                &[0, 1, 1, 0, 3, 1, 1, 1, 0, 2, 11, 0, 0, 2, 10, 1],
+                &[13, 13, 13, 10],
+            )
+        );
+        assert!(rt; reads(&[0, 6, 8, 1, 0, 0, 4, 0], &[13]));
+    }
+
+    #[test]
+    fn long_writes(rt: HostRuntime) {
+        let mut most = [0u8; 264];
+        most[0] = 1;
+        most[1] = 6;
+        most[2] = 8;
+        assert!(rt; reads(&most, &[8]));
+        let mut over = [0u8; 265];
+        over[0] = 1;
+        over[1] = 7;
+        over[2] = 8;
+        assert!(rt; reads(&over, &[13]));
+    }
+
+    #[test]
+    fn lines(rt: HostRuntime) -> Result<(), Fail> {
+        let mut out = String::new(rt.alloc());
+        push_plain(&mut out, 1, 0)?;
+        push_counts(&mut out, 2, [3, 2, 1, 128])?;
+        push_bytes(&mut out, 3, &[0, 0xaf])?;
+        push_numbers(&mut out, 4, 12, &[2, 0, 1, 0, 1, 1, 1024])?;
+        push_plain(&mut out, 15, 14)?;
+        assert!(rt; out.as_str() == "1 0\n2 0 3 2 1 128\n3 0 00af\n4 12 2 0 1 0 1 1 1024\n15 14\n");
+        Ok(())
+    }
+
+    // Calls, refusals, a malformed record and one that is cut short.
+    #[test]
+    fn short_script(rt: HostRuntime) -> Result<(), Fail> {
+        let script = [0, 2, 1, 1, 0, 2, 1, 1, 0, 2, 10, 9, 0, 1, 11, 0, 0, 0];
+        let text = printed(rt.alloc(), &script)?;
+        assert!(rt; text.as_str() == "1 0\n2 3\n3 2\n4 0 0 0 0 128\n5 13\n6 14\n");
+        Ok(())
+    }
+
+    // The longest script is performed, and one byte more is not.
+    #[test]
+    fn long_scripts(rt: HostRuntime) -> Result<(), Fail> {
+        let heap = rt.alloc();
+        let mut script = vec![in heap; 0u8; 16384]?;
+        let text = printed(heap, script.as_slice())?;
+        assert!(rt; text.as_str().starts_with("1 13\n2 13\n"));
+        assert!(rt; text.as_str().ends_with("\n8192 13\n"));
+        script.push(0)?;
+        let refused = printed(heap, script.as_slice())?;
+        assert!(rt; refused.as_str() == "too long\n");
+        Ok(())
+    }
+}

@@ -1,10 +1,21 @@
-use Rattle.std.proofs.lemmas.Result.{IfOk-weaker}
-use Rattle.std.proofs.Common.{vec_items, string_bytes}
-use Rattle.scripts.proofs.Telling.{transcribes}
+use Rattle.std.proofs.Common.{refl, arith}
+use Rattle.scripts.specs.Transcript.{transcript_of}
+use Rattle.scripts.proofs.Performing.{one_more, none_left}
 use Rattle.scripts.proofs.console.transcript.Goals as goal
 
+pub loop-item-init : goal.loop-item-init
+unfolding transcript_of
+loop-item-init c = (omega arith, λ M. (_, c.new-engine.ensures, rw c.new-out.ensures.bytes refl))
+
+pub loop-item-preserved : goal.loop-item-preserved
+loop-item-preserved c =
+    let reads = c.in-Some.ensures in (
+      omega (arith, reads.shorter, c.loop-item.invariant.0),
+      λ M.
+          let before = c.loop-item.invariant.1 M in
+          let does = c.perform-answer.ensures M before.0 before.1 in
+          (_, does.next, one_more M _ _ _ _ _ _ _ _ _ reads.begins does.answer c.in-ok-push-line.ensures before.2),
+    )
+
 pub returns : goal.returns
-returns g c =
-    IfOk-weaker c.listing.result _ _
-    (λ t wrote. transcribes _ c.args.script.now (string_bytes t) (vec_items c.in-ok-calls.calls) c.as-slice.result.now (vec_items c.in-ok-ended.ended.replies) c.as-slice-2.result.now c.in-ok-calls.ensures c.as-slice.ensures.value c.in-ok-ended.ensures c.as-slice-2.ensures.value wrote)
-    c.listing.ensures
+returns c M = let before = c.loop-item.invariant.1 M in none_left M _ _ _ _ _ c.in-default.ensures.none before.2

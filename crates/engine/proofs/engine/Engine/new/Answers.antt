@@ -1,5 +1,8 @@
-use Rattle.relation.proofs.Starting.{stands_start}
+use Rattle.std.proofs.Common.{sym}
+use Rattle.machine.specs.State.{start}
+use Rattle.engine.proofs.Tasks.{stands_start}
 use Rattle.engine.proofs.engine.Engine.new.Goals as goal
 
 pub returns : goal.returns
-returns c memory M = stands_start c.args.n c.frames-of.result c.idle.result c.new.result.tables memory M c.frames-of.ensures c.idle.ensures.living c.new.ensures.frames
+unfolding start
+returns c = record { frames = sym c.frames-of.ensures; tasks = stands_start c.args.n }

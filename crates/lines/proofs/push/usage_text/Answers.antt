@@ -1,6 +1,0 @@
-use Rattle.std.proofs.Common.{sym, ◌∙◌, rules}
-use Rattle.lines.proofs.Joining.{four_numbers}
-use Rattle.lines.proofs.push.usage_text.Goals as goal
-
-pub returns : goal.returns
-returns c = c.in-ok-text.ensures ∙ sym (four_numbers c.args.counts (search rules))

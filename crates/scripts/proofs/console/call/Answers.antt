@@ -1,0 +1,16 @@
+use Rattle.std.proofs.Common.{refl}
+use Rattle.scripts.proofs.Performing.{performs, passes_over, unperformed}
+use Rattle.scripts.proofs.console.call.Goals as goal
+
+pub returns-in-Create : goal.returns-in-Create
+returns-in-Create c M s h = performs M s _ _ _ _ _ c.in-Create.is refl c.bare.ensures (c.create.ensures.machine M s h)
+
+pub returns-in-Exit : goal.returns-in-Exit
+returns-in-Exit c M s h = performs M s _ _ _ _ _ c.in-Exit.is refl c.bare-in-Exit.ensures (c.exit.ensures.machine M s h)
+
+pub returns-in-Usage : goal.returns-in-Usage
+returns-in-Usage c M s h = performs M s _ _ _ _ _ c.in-Usage.is refl refl (c.usage.ensures M s h)
+
+pub returns-in-default : goal.returns-in-default
+returns-in-default c M s h =
+    passes_over M s _ _ (unperformed c.args.command c.in-default.not-Create c.in-default.not-Exit c.in-default.not-Usage) h

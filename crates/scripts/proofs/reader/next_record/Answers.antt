@@ -1,0 +1,18 @@
+use Rattle.std.proofs.Common.{rules}
+use Rattle.scripts.proofs.Reading.{reads_none, reads_lone, reads_short, reads_more}
+use Rattle.scripts.proofs.reader.next_record.Goals as goal
+
+pub returns-in-empty : goal.returns-in-empty
+returns-in-empty c = reads_none c.args.script.now (search rules)
+
+pub returns-in-len1 : goal.returns-in-len1
+returns-in-len1 c = reads_lone c.args.script.now (search rules)
+
+pub returns-in-Some : goal.returns-in-Some
+returns-in-Some c =
+    reads_more c.args.script.now c.from-be-bytes-size.result _ _ c.parsed.result (search rules) (search rules)
+    c.in-Some.ensures c.parsed.ensures
+
+pub returns-in-None : goal.returns-in-None
+returns-in-None c =
+    reads_short c.args.script.now c.from-be-bytes-size.result (search rules) (search rules) c.in-None.ensures
