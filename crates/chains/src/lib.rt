@@ -1,4 +1,6 @@
 // The rows of the tables of memory objects, and where a walk through them ends.
+#![tactic(auto)]
+
 ghost use Rattle.std.specs.Prelude.{◌≡◌};
 ghost use Rattle.chains.specs.declared.Backing.TheVariants.{Free};
 

@@ -1,4 +1,6 @@
 // Tasks and the calls on them.
+#![tactic(auto)]
+
 mod calls;
 mod engine;
 

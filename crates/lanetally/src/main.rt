@@ -1,4 +1,6 @@
 // The console: a script from standard input, a line for each of its records on standard output.
+#![tactic(auto)]
+
 use scripts::printed;
 use std::io;
 use std::io::Read;

@@ -1,4 +1,6 @@
 // The words of the subject: protections, inheritances, map entries; and the copying machine, in specs/.
+#![tactic(auto)]
+
 mod entry;
 mod theorems;
 mod words;

@@ -1,4 +1,6 @@
 // Sharing records, memory objects and frames: walks, shadows, collapse.
+#![tactic(auto)]
+
 mod calls;
 mod change;
 mod edit;

@@ -1,4 +1,6 @@
 // Stores at work.
+#![tactic(auto)]
+
 #[cfg(test)]
 mod tests {
     use chains::{End, Origin};

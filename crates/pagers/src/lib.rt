@@ -1,4 +1,6 @@
 // Where the pages of memory objects come from.
+#![tactic(auto)]
+
 mod empty;
 mod extent;
 mod fault;

@@ -1,4 +1,6 @@
 // Pagers run on small examples, and on image files made for the purpose.
+#![tactic(auto)]
+
 #[cfg(test)]
 mod files;
 #[cfg(test)]

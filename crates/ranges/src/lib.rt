@@ -1,4 +1,6 @@
 // Page ranges, and tables of elements that lie in page ranges and can be cut in two.
+#![tactic(auto)]
+
 mod element;
 mod range;
 mod row;

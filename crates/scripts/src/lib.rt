@@ -1,4 +1,6 @@
 // Scripts of commands to the memory engine, and the transcripts that answer them.
+#![tactic(auto)]
+
 mod console;
 mod lines;
 mod reader;

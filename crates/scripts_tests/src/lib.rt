@@ -1,4 +1,6 @@
 // Tests of the script reader and of the lines of a transcript.
+#![tactic(auto)]
+
 #[cfg(test)]
 mod tests {
     use scripts::{

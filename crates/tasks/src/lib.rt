@@ -1,4 +1,6 @@
 // A task: whether it lives, and its table of map entries.
+#![tactic(auto)]
+
 mod table;
 mod task;
 

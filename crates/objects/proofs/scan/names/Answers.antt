@@ -1,7 +1,7 @@
 use Rattle.std.proofs.Common.{sym, ◌∙◌, arith}
 use Rattle.chains.proofs.Sums.{count_none, count_hit, count_miss, count_low}
 use Rattle.objects.proofs.scan.names.Goals as goal
-use Rattle.objects.proofs.scan.names.Goals.{then-is-top, else-is-top}
+use Rattle.objects.proofs.scan.names.Goals.{then-is_top, else-is_top}
 
 pub loop-top-init : goal.loop-top-init
 loop-top-init c = count_none _
@@ -11,7 +11,7 @@ overflow-add-n c = let h = count_low _ _ _ c.loop-top.invariant in omega arith
 
 pub loop-top-preserved : goal.loop-top-preserved
 loop-top-preserved c =
-    elim c.if-is-top.branch [
-      | then-is-top w ↦ w.n-is ∙ count_hit _ _ _ c.loop-top.invariant (sym c.is-top.ensures ∙ w.if-is-top.true)
-      | else-is-top w ↦ w.n-is ∙ count_miss _ _ _ c.loop-top.invariant (sym c.is-top.ensures ∙ w.if-is-top.false)
+    elim c.if-is_top.branch [
+      | then-is_top w ↦ w.n-is ∙ count_hit _ _ _ c.loop-top.invariant (sym c.is-top.ensures ∙ w.if-is-top.true)
+      | else-is_top w ↦ w.n-is ∙ count_miss _ _ _ c.loop-top.invariant (sym c.is-top.ensures ∙ w.if-is-top.false)
     ]

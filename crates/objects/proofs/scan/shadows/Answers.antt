@@ -1,7 +1,7 @@
 use Rattle.std.proofs.Common.{sym, ◌∙◌, arith}
 use Rattle.chains.proofs.Sums.{count_none, count_hit, count_miss, count_low}
 use Rattle.objects.proofs.scan.shadows.Goals as goal
-use Rattle.objects.proofs.scan.shadows.Goals.{then-is-shadow, else-is-shadow}
+use Rattle.objects.proofs.scan.shadows.Goals.{then-is_shadow, else-is_shadow}
 
 pub loop-row-init : goal.loop-row-init
 loop-row-init c = count_none _
@@ -11,7 +11,7 @@ overflow-add-n c = let h = count_low _ _ _ c.loop-row.invariant in omega arith
 
 pub loop-row-preserved : goal.loop-row-preserved
 loop-row-preserved c =
-    elim c.if-is-shadow.branch [
-      | then-is-shadow w ↦ w.n-is ∙ count_hit _ _ _ c.loop-row.invariant (sym c.is-shadow.ensures ∙ w.if-is-shadow.true)
-      | else-is-shadow w ↦ w.n-is ∙ count_miss _ _ _ c.loop-row.invariant (sym c.is-shadow.ensures ∙ w.if-is-shadow.false)
+    elim c.if-is_shadow.branch [
+      | then-is_shadow w ↦ w.n-is ∙ count_hit _ _ _ c.loop-row.invariant (sym c.is-shadow.ensures ∙ w.if-is-shadow.true)
+      | else-is_shadow w ↦ w.n-is ∙ count_miss _ _ _ c.loop-row.invariant (sym c.is-shadow.ensures ∙ w.if-is-shadow.false)
     ]

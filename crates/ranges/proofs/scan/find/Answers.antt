@@ -11,7 +11,7 @@ has-page-requires g c = proper_read g.E.Element.shape _ _ _ c.loop-row-test.true
 pub one-requires : goal.one-requires
 one-requires g c =
     let S = g.E.Element.shape in
-    let held = holds_facts S c.args.page _ (sym c.has-page.ensures ∙ c.if-has-page.true) in
+    let held = holds_facts S c.args.page _ (sym c.has_page.ensures ∙ c.if-has_page.true) in
     record {
       proper = proper_read S _ _ _ c.loop-row-test.true c.row-item.is 0 c.requires;
       from = held.0;
@@ -25,7 +25,7 @@ returns-then-has-page g c =
 
 pub loop-row-preserved : goal.loop-row-preserved
 loop-row-preserved g c =
-    c.loop-row.invariant ∙ said_more g.E.Element.shape _ _ _ c.loop-row-test.true c.row-item.is c.args.page (sym c.has-page.ensures ∙ c.if-has-page.false)
+    c.loop-row.invariant ∙ said_more g.E.Element.shape _ _ _ c.loop-row-test.true c.row-item.is c.args.page (sym c.has_page.ensures ∙ c.if-has_page.false)
 
 pub returns : goal.returns
 returns g c = sym (c.loop-row.invariant ∙ at_drop_all (said g.E.Element.shape c.args.page) _ _ c.loop-row-test.false)

@@ -4,4 +4,4 @@ use Rattle.ranges.proofs.table.put.Goals as goal
 
 pub returns : goal.returns
 returns g c =
-    put_is c.args.rows.now c.rotate-right.new.self c.args.len c.args.at c.args.e c.requires.room c.requires.within _ refl c.rotate-right.ensures.after
+    put_is c.args.rows.now c.rotate_right.new.self c.args.len c.args.at c.args.e c.requires.room c.requires.within _ refl c.rotate_right.ensures.after

@@ -3,7 +3,7 @@ use Rattle.ranges.specs.Shape.{end}
 use Rattle.ranges.proofs.Scans.{proper_read}
 use Rattle.ranges.proofs.Divides.{squeezing_start, squeezing_read, squeezing_none, squeezing_some, squeezing_all}
 use Rattle.ranges.proofs.table.squeeze.Goals as goal
-use Rattle.ranges.proofs.table.squeeze.Goals.{in-Some, in-default}
+use Rattle.ranges.proofs.table.squeeze.Goals.{in-Some, in_default}
 
 pub trim-requires : goal.trim-requires
 trim-requires g c =
@@ -25,7 +25,7 @@ loop-i-preserved g c =
     let x = c.index-rows-i.result in
     elim c.match-trim.branch [
       | in-Some w ↦ rw (w.rows-is, w.count-is) (squeezing_some S c.loop-i.invariant x w.in-Some.part c.loop-i-test.true c.index-rows-i.is w.in-Some.ensures)
-      | in-default w ↦ rw (w.rows-is, w.count-is) (squeezing_none S c.loop-i.invariant x c.loop-i-test.true c.index-rows-i.is w.in-default.ensures)
+      | in_default w ↦ rw (w.rows-is, w.count-is) (squeezing_none S c.loop-i.invariant x c.loop-i-test.true c.index-rows-i.is w.in_default.ensures)
     ]
 
 pub returns : goal.returns

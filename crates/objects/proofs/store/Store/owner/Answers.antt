@@ -14,6 +14,6 @@ returns-then-slot-ge128 c =
 
 pub returns : goal.returns
 returns c = record {
-  answer = c.owner-at.ensures;
-  fixes = λ k i h. ap index_of c.owner-at.ensures ∙ frame_fixes c.args.self.now.tables (store_sound c.args.self.now) k i c.args.slot h;
+  answer = c.owner_at.ensures;
+  fixes = λ k i h. ap index_of c.owner_at.ensures ∙ frame_fixes c.args.self.now.tables (store_sound c.args.self.now) k i c.args.slot h;
 }

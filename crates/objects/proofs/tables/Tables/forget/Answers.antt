@@ -8,14 +8,14 @@ pub settle-requires-in-Shadow : goal.settle-requires-in-Shadow
 settle-requires-in-Shadow c =
     let t = c.args.self.now in
     let o = c.args.object in
-    let none : weight_of t o ≡ 0 = eqb-true _ 0 (sym c.is-unused.ensures ∙ c.if-not-is-unused.false) in
+    let none : weight_of t o ≡ 0 = eqb-true _ 0 (sym c.is_unused.ensures ∙ c.if-not-is_unused.false) in
     forget_nearly t c.requires.formed o c.requires.others c.free.new.self c.free.ensures.rows c.free.ensures.records none (object_below t c.requires.formed o c.requires.live) c.free.ensures.objects c.free.ensures.frames c.in-Shadow.lower c.in-Shadow.ensures.row
 
 pub returns-in-Shadow : goal.returns-in-Shadow
 returns-in-Shadow c =
     let t = c.args.self.now in
     let o = c.args.object in
-    let none : weight_of t o ≡ 0 = eqb-true _ 0 (sym c.is-unused.ensures ∙ c.if-not-is-unused.false) in
+    let none : weight_of t o ≡ 0 = eqb-true _ 0 (sym c.is_unused.ensures ∙ c.if-not-is_unused.false) in
     forget_shadow t c.requires.formed o c.requires.others c.free.new.self c.free.ensures.rows c.free.ensures.records none (object_below t c.requires.formed o c.requires.live) c.free.ensures.objects c.free.ensures.frames c.settle-in-Shadow.new.self c.settle-in-Shadow.ensures
 
 pub returns-in-default : goal.returns-in-default

@@ -5,7 +5,7 @@ use Rattle.objects.proofs.tables.Tables.release.Goals as goal
 
 pub returns : goal.returns
 returns c =
-    let x = releases c.args.self.now c.let-go.new.self c.requires c.args.slot c.let-go.ensures.size c.if-slot-ge128.false c.let-go.ensures.tables in
+    let x = releases c.args.self.now c.let_go.new.self c.requires c.args.slot c.let_go.ensures.size c.if-slot-ge128.false c.let_go.ensures.tables in
     record {
       sound = x.sound;
       answer = search rules;

@@ -8,11 +8,11 @@ step-requires c = object_below c.args.self.now c.requires.formed c.loop-length.o
 
 pub returns-in-Ends : goal.returns-in-Ends
 returns-in-Ends c =
-    let x = comes_says c.args.self.now c.requires c.args.index c.in-ok-object.object c.args.sharing c.loop-length.object c.loop-length.length c.in-Ends.end c.in-ok-step.step c.in-ok-object.was c.loop-length.invariant c.in-ok-step.ensures c.in-Ends.is in
+    let x = comes_says c.args.self.now c.requires c.args.index c.in_ok-object.object c.args.sharing c.loop-length.object c.loop-length.length c.in-Ends.end c.in_ok-step.step c.in_ok-object.was c.loop-length.invariant c.in_ok-step.ensures c.in-Ends.is in
     record { used = x.0; end = x.1; length = x.2; short = x.3 }
 
 pub loop-length-preserved : goal.loop-length-preserved
-loop-length-preserved c = comes_more c.args.self.now c.requires c.args.index c.in-ok-object.object c.loop-length.object c.loop-length.length c.in-Below.lower c.loop-length.invariant (ap Some (sym c.in-Below.is) ∙ c.in-ok-step.ensures)
+loop-length-preserved c = comes_more c.args.self.now c.requires c.args.index c.in_ok-object.object c.loop-length.object c.loop-length.length c.in-Below.lower c.loop-length.invariant (ap Some (sym c.in-Below.is) ∙ c.in_ok-step.ensures)
 
 pub returns : goal.returns
-returns c = absurd (comes_over c.args.self.now c.requires c.args.index c.in-ok-object.object c.args.sharing c.loop-length.object c.loop-length.length c.in-ok-object.was c.loop-length-test.false c.loop-length.invariant)
+returns c = absurd (comes_over c.args.self.now c.requires c.args.index c.in_ok-object.object c.args.sharing c.loop-length.object c.loop-length.length c.in_ok-object.was c.loop-length-test.false c.loop-length.invariant)
