@@ -8,11 +8,11 @@ use Rattle.machine.specs.Calls.{Reply, done, counts, refused}
 use Rattle.machine.specs.State.{State, start, numbers, table, lives, all_entries, living_cells, living_marks, living_records, distinct}
 use Rattle.machine.specs.Step.{Outcome, judged, refuse, accepted, misnumbered, missing, created, ended, counted, with_task}
 use Rattle.machine.proofs.Judged.{passes, stops}
-use Rattle.engine.specs.Relation.{place_of, row_at, entries-if}
+use Rattle.engine.specs.Relation.{place_of, row_at, entries_if}
 
 -- the rows stand for the living tasks
 abbrev pub Stands : List Bool → State → Type 0
-Stands living s = (t : ℕ) → s.tasks t ≡ entries-if (row_at living (place_of t))
+Stands living s = (t : ℕ) → s.tasks t ≡ entries_if (row_at living (place_of t))
 
 none_some : (k : ℕ) → None ≡ Some k → ⊥
 none_some k e = let z : ◌≡◌ {A = ℕ} 0 1 = cc in omega arith
@@ -49,38 +49,38 @@ set_other : (living : List Bool) (k : ℕ) (b : Bool) (p : Option ℕ) → (p �
 set_other living k b None ne = refl
 set_other living k b (Some j) ne = get_or-set_other living k j b false (λ e. ne (ap Some e))
 
-put_task : (living : List Bool) (s : State) (t k : ℕ) (b : Bool) → Stands living s → place_of t ≡ Some k → k < length living → (u : ℕ) → ((u ≡ t) ⊎ (u ≡ t → ⊥)) → (with_task s t (entries-if b)).tasks u ≡ entries-if (row_at (set living k b) (place_of u))
+put_task : (living : List Bool) (s : State) (t k : ℕ) (b : Bool) → Stands living s → place_of t ≡ Some k → k < length living → (u : ℕ) → ((u ≡ t) ⊎ (u ≡ t → ⊥)) → (with_task s t (entries_if b)).tasks u ≡ entries_if (row_at (set living k b) (place_of u))
 unfolding with_task
 put_task living s t k b h p lt u (inl e) =
     rw (eq-eqb u t e, e, p, get_or-set_same living k b false lt) refl
 put_task living s t k b h p lt u (inr ne) =
     rw (ne_eqb u t ne, set_other living k b (place_of u) (λ q. ne (place_same t u k p q))) (h u)
 
-pub stands-put : (living : List Bool) (s : State) (t k : ℕ) (b : Bool) → Stands living s → place_of t ≡ Some k → k < length living → Stands (set living k b) (with_task s t (entries-if b))
-stands-put living s t k b h p lt u = put_task living s t k b h p lt u (cases_eq u t)
+pub stands_put : (living : List Bool) (s : State) (t k : ℕ) (b : Bool) → Stands living s → place_of t ≡ Some k → k < length living → Stands (set living k b) (with_task s t (entries_if b))
+stands_put living s t k b h p lt u = put_task living s t k b h p lt u (cases_eq u t)
 
 -- whether the task lives, by its row
-lives-if : (b : Bool) → is_some (entries-if b) ≡ b
-lives-if true = refl
-lives-if false = refl
+lives_if : (b : Bool) → is_some (entries_if b) ≡ b
+lives_if true = refl
+lives_if false = refl
 
 pub lives_row : (living : List Bool) (s : State) (t k : ℕ) → Stands living s → place_of t ≡ Some k → lives s t ≡ get_or living k false
 unfolding lives
-lives_row living s t k h p = ap is_some (h t) ∙ lives-if (row_at living (place_of t)) ∙ ap (row_at living) p
+lives_row living s t k h p = ap is_some (h t) ∙ lives_if (row_at living (place_of t)) ∙ ap (row_at living) p
 
 -- What create answers
 
-pub create-unnumbered : (s : State) (t : ℕ) → place_of t ≡ None → created s t ≡ record { reply = refused 2; next = s }
+pub create_unnumbered : (s : State) (t : ℕ) → place_of t ≡ None → created s t ≡ record { reply = refused 2; next = s }
 unfolding created
-create-unnumbered s t p = stops 2 (misnumbered t) _ s _ (outside t p)
+create_unnumbered s t p = stops 2 (misnumbered t) _ s _ (outside t p)
 
 pub create_living : (living : List Bool) (s : State) (t k : ℕ) → Stands living s → place_of t ≡ Some k → get_or living k false ≡ true → created s t ≡ record { reply = refused 3; next = s }
 unfolding created
 create_living living s t k h p e = passes 2 (misnumbered t) _ s _ (inside t k p) ∙ stops 3 (lives s t) _ s _ (lives_row living s t k h p ∙ e)
 
-pub create-new : (living : List Bool) (s : State) (t k : ℕ) → Stands living s → place_of t ≡ Some k → get_or living k false ≡ false → created s t ≡ record { reply = done; next = with_task s t (entries-if true) }
+pub create_new : (living : List Bool) (s : State) (t k : ℕ) → Stands living s → place_of t ≡ Some k → get_or living k false ≡ false → created s t ≡ record { reply = done; next = with_task s t (entries_if true) }
 unfolding created judged accepted
-create-new living s t k h p e = passes 2 (misnumbered t) _ s _ (inside t k p) ∙ passes 3 (lives s t) [] s _ (lives_row living s t k h p ∙ e)
+create_new living s t k h p e = passes 2 (misnumbered t) _ s _ (inside t k p) ∙ passes 3 (lives s t) [] s _ (lives_row living s t k h p ∙ e)
 
 -- What exit answers
 
@@ -92,17 +92,17 @@ missing_row : (living : List Bool) (s : State) (t k : ℕ) → Stands living s �
 unfolding missing
 missing_row living s t k h p = rw (inside t k p, lives_row living s t k h p) refl
 
-pub exit-unnumbered : (s : State) (t : ℕ) → place_of t ≡ None → ended s t ≡ record { reply = refused 2; next = s }
+pub exit_unnumbered : (s : State) (t : ℕ) → place_of t ≡ None → ended s t ≡ record { reply = refused 2; next = s }
 unfolding ended
-exit-unnumbered s t p = stops 2 (missing s t) _ s _ (missing_outside s t p)
+exit_unnumbered s t p = stops 2 (missing s t) _ s _ (missing_outside s t p)
 
-pub exit-ended : (living : List Bool) (s : State) (t k : ℕ) → Stands living s → place_of t ≡ Some k → get_or living k false ≡ false → ended s t ≡ record { reply = refused 2; next = s }
+pub exit_ended : (living : List Bool) (s : State) (t k : ℕ) → Stands living s → place_of t ≡ Some k → get_or living k false ≡ false → ended s t ≡ record { reply = refused 2; next = s }
 unfolding ended
-exit-ended living s t k h p e = stops 2 (missing s t) _ s _ (missing_row living s t k h p ∙ ap not e)
+exit_ended living s t k h p e = stops 2 (missing s t) _ s _ (missing_row living s t k h p ∙ ap not e)
 
-pub exit-living : (living : List Bool) (s : State) (t k : ℕ) → Stands living s → place_of t ≡ Some k → get_or living k false ≡ true → ended s t ≡ record { reply = done; next = with_task s t (entries-if false) }
+pub exit_living : (living : List Bool) (s : State) (t k : ℕ) → Stands living s → place_of t ≡ Some k → get_or living k false ≡ true → ended s t ≡ record { reply = done; next = with_task s t (entries_if false) }
 unfolding ended judged accepted
-exit-living living s t k h p e = passes 2 (missing s t) [] s _ (missing_row living s t k h p ∙ ap not e)
+exit_living living s t k h p e = passes 2 (missing s t) [] s _ (missing_row living s t k h p ∙ ap not e)
 
 -- What usage counts
 
@@ -110,32 +110,32 @@ no_table : (living : List Bool) (s : State) (t : ℕ) → Stands living s → ta
 unfolding table
 no_table living s t h = rw (h t) (none_in (row_at living (place_of t)))
   where
-    none_in : (b : Bool) → unwrap_or (entries-if b) [] ≡ []
+    none_in : (b : Bool) → unwrap_or (entries_if b) [] ≡ []
     none_in true = refl
     none_in false = refl
 
-none-joined : {A : Type 0} (f : ℕ → List A) (ts : List ℕ) → ((t : ℕ) → f t ≡ []) → flat_map f ts ≡ []
-none-joined f [] h = refl
-none-joined f (t ∷ ts) h = rw (h t) (none-joined f ts h)
+none_joined : {A : Type 0} (f : ℕ → List A) (ts : List ℕ) → ((t : ℕ) → f t ≡ []) → flat_map f ts ≡ []
+none_joined f [] h = refl
+none_joined f (t ∷ ts) h = rw (h t) (none_joined f ts h)
 
-no-entries : (living : List Bool) (s : State) → Stands living s → all_entries s ≡ []
+no_entries : (living : List Bool) (s : State) → Stands living s → all_entries s ≡ []
 unfolding all_entries
-no-entries living s h = none-joined (table s) numbers (λ t. no_table living s t h)
+no_entries living s h = none_joined (table s) numbers (λ t. no_table living s t h)
 
-pub no-counts : (living : List Bool) (s : State) → Stands living s → counted s ≡ record { reply = counts 0 0 0 s.frames; next = s }
+pub no_counts : (living : List Bool) (s : State) → Stands living s → counted s ≡ record { reply = counts 0 0 0 s.frames; next = s }
 unfolding counted living_records living_marks living_cells distinct
-no-counts living s h = rw (no-entries living s h) refl
+no_counts living s h = rw (no_entries living s h) refl
 
 -- At the start
 
-getD-same : (n k : ℕ) → get_or (replicate n false) k false ≡ false
-getD-same zero k = refl
-getD-same (suc n) zero = refl
-getD-same (suc n) (suc k) = getD-same n k
+getD_same : (n k : ℕ) → get_or (replicate n false) k false ≡ false
+getD_same zero k = refl
+getD_same (suc n) zero = refl
+getD_same (suc n) (suc k) = getD_same n k
 
 none_living : (n : ℕ) (p : Option ℕ) → row_at (replicate n false) p ≡ false
 none_living n None = refl
-none_living n (Some k) = getD-same n k
+none_living n (Some k) = getD_same n k
 
 pub stands_start : (n : ℕ) → Stands (replicate 16 false) (start n)
 unfolding start

@@ -20,13 +20,13 @@ row_at living None = false
 row_at living (Some k) = slice_index_or living k false
 
 -- a living task has no entries yet
-abbrev pub entries-if : Bool → Option (List Entry)
-entries-if b = cond b (Some []) None
+abbrev pub entries_if : Bool → Option (List Entry)
+entries_if b = cond b (Some []) None
 
 -- the engine stands for the state: as many frames, the same tasks, the same entries
 pub record Represents (e : Engine) (s : State) : Type 0 where
   pub frames : s.frames ≡ e.frames
-  pub tasks : (t : ℕ) → s.tasks t ≡ entries-if (row_at e.living (place_of t))
+  pub tasks : (t : ℕ) → s.tasks t ≡ entries_if (row_at e.living (place_of t))
 
 -- the machine's word for a refusal
 abbrev pub refusal : Refusal → Reply

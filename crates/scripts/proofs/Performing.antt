@@ -42,13 +42,13 @@ unperformed (Exit t) a b d = absurd (b t refl)
 unperformed Usage a b d = absurd (d refl)
 
 -- a record that is no call
-pub answers-malformed : (M : Meaning) (s : State) (x : Record) (e : Engine) → x ≡ Wrong → Represents e s → Answers M s (item_of x) Malformed e
+pub answers_malformed : (M : Meaning) (s : State) (x : Record) (e : Engine) → x ≡ Wrong → Represents e s → Answers M s (item_of x) Malformed e
 unfolding answered moved
-answers-malformed M s x e is h = subst (λ (z : Record). Answers M s (item_of z) Malformed e) (sym is) (record { answer = refl; next = h })
+answers_malformed M s x e is h = subst (λ (z : Record). Answers M s (item_of z) Malformed e) (sym is) (record { answer = refl; next = h })
 
-pub answers-cut : (M : Meaning) (s : State) (x : Record) (e : Engine) → x ≡ Short → Represents e s → Answers M s (item_of x) CutShort e
+pub answers_cut : (M : Meaning) (s : State) (x : Record) (e : Engine) → x ≡ Short → Represents e s → Answers M s (item_of x) CutShort e
 unfolding answered moved
-answers-cut M s x e is h = subst (λ (z : Record). Answers M s (item_of z) CutShort e) (sym is) (record { answer = refl; next = h })
+answers_cut M s x e is h = subst (λ (z : Record). Answers M s (item_of z) CutShort e) (sym is) (record { answer = refl; next = h })
 
 -- one record more: its line is written, and the rest gives what is left of the transcript
 pub one_more : (M : Meaning) (n : ℕ) (s : State) (all rest : List Item) (i : Item) (a : Given) (old new whole : List ℕ) →

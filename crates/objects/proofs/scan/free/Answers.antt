@@ -2,8 +2,8 @@ use Rattle.std.proofs.Common.{sym, arith, rules}
 use Rattle.chains.proofs.Finds.{lowest_is, lowest_not}
 use Rattle.objects.proofs.scan.free.Goals as goal
 
-pub returns-then-not-is-live : goal.returns-then-not-is-live
-returns-then-not-is-live c = sym (lowest_is _ _ c.loop-i.i (omega arith) (search rules) c.loop-i.invariant)
+pub returns-then-not-is_live : goal.returns-then-not-is_live
+returns-then-not-is_live c = sym (lowest_is _ _ c.loop-i.i (omega arith) (search rules) c.loop-i.invariant)
 
 pub returns : goal.returns
 returns c = sym (lowest_not _ _ (λ k l. c.loop-i.invariant k (omega arith)))

@@ -6,12 +6,12 @@ use Rattle.objects.proofs.scan.held.Goals.{then-is_some, else-is_some}
 pub loop-owner-init : goal.loop-owner-init
 loop-owner-init c = count_none _
 
-pub overflow-add-n : goal.overflow-add-n
-overflow-add-n c = let h = count_low _ _ _ c.loop-owner.invariant in omega arith
+pub overflow_add-n : goal.overflow_add-n
+overflow_add-n c = let h = count_low _ _ _ c.loop-owner.invariant in omega arith
 
 pub loop-owner-preserved : goal.loop-owner-preserved
 loop-owner-preserved c =
     elim c.if-is_some.branch [
-      | then-is_some w ↦ w.n-is ∙ count_hit _ _ _ c.loop-owner.invariant (sym c.is-some.ensures ∙ w.if-is-some.true)
-      | else-is_some w ↦ w.n-is ∙ count_miss _ _ _ c.loop-owner.invariant (sym c.is-some.ensures ∙ w.if-is-some.false)
+      | then-is_some w ↦ w.n-is ∙ count_hit _ _ _ c.loop-owner.invariant (sym c.is_some.ensures ∙ w.if-is_some.true)
+      | else-is_some w ↦ w.n-is ∙ count_miss _ _ _ c.loop-owner.invariant (sym c.is_some.ensures ∙ w.if-is_some.false)
     ]

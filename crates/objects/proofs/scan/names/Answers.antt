@@ -6,12 +6,12 @@ use Rattle.objects.proofs.scan.names.Goals.{then-is_top, else-is_top}
 pub loop-top-init : goal.loop-top-init
 loop-top-init c = count_none _
 
-pub overflow-add-n : goal.overflow-add-n
-overflow-add-n c = let h = count_low _ _ _ c.loop-top.invariant in omega arith
+pub overflow_add-n : goal.overflow_add-n
+overflow_add-n c = let h = count_low _ _ _ c.loop-top.invariant in omega arith
 
 pub loop-top-preserved : goal.loop-top-preserved
 loop-top-preserved c =
     elim c.if-is_top.branch [
-      | then-is_top w ↦ w.n-is ∙ count_hit _ _ _ c.loop-top.invariant (sym c.is-top.ensures ∙ w.if-is-top.true)
-      | else-is_top w ↦ w.n-is ∙ count_miss _ _ _ c.loop-top.invariant (sym c.is-top.ensures ∙ w.if-is-top.false)
+      | then-is_top w ↦ w.n-is ∙ count_hit _ _ _ c.loop-top.invariant (sym c.is_top.ensures ∙ w.if-is_top.true)
+      | else-is_top w ↦ w.n-is ∙ count_miss _ _ _ c.loop-top.invariant (sym c.is_top.ensures ∙ w.if-is_top.false)
     ]

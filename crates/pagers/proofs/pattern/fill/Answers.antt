@@ -10,7 +10,7 @@ loop-i-preserved c =
     let l : c.loop-i.i < length c.loop-i.into = omega (arith, c.loop-i.invariant.0) in
     let long = c.loop-i.invariant.0 in
     let all = fill_by_more f _ _ 0 l c.loop-i.invariant.1 in
-    (simp length-set long, λ k below. rw c.byte-of.ensures (all k below))
+    (simp length-set long, λ k below. rw c.byte_of.ensures (all k below))
 
 pub returns : goal.returns
 returns c m = fills c.args.page m _ c.loop-i.invariant.0 (λ k l. c.loop-i.invariant.1 k (omega arith))

@@ -5,8 +5,8 @@ use Rattle.ranges.proofs.Facts.{holds_facts}
 use Rattle.ranges.proofs.Scans.{proper_read, said_found, said_more}
 use Rattle.ranges.proofs.scan.find.Goals as goal
 
-pub has-page-requires : goal.has-page-requires
-has-page-requires g c = proper_read g.E.Element.shape _ _ _ c.loop-row-test.true c.row-item.is 0 c.requires
+pub has_page-requires : goal.has_page-requires
+has_page-requires g c = proper_read g.E.Element.shape _ _ _ c.loop-row-test.true c.row-item.is 0 c.requires
 
 pub one-requires : goal.one-requires
 one-requires g c =
@@ -18,10 +18,10 @@ one-requires g c =
       below = held.1;
     }
 
-pub returns-then-has-page : goal.returns-then-has-page
-returns-then-has-page g c =
+pub returns-then-has_page : goal.returns-then-has_page
+returns-then-has_page g c =
     ap Some c.one.ensures
-    ∙ sym (c.loop-row.invariant ∙ said_found g.E.Element.shape _ _ _ c.loop-row-test.true c.row-item.is c.args.page (sym c.has-page.ensures ∙ c.if-has-page.true))
+    ∙ sym (c.loop-row.invariant ∙ said_found g.E.Element.shape _ _ _ c.loop-row-test.true c.row-item.is c.args.page (sym c.has_page.ensures ∙ c.if-has_page.true))
 
 pub loop-row-preserved : goal.loop-row-preserved
 loop-row-preserved g c =

@@ -5,18 +5,18 @@ use Rattle.ranges.proofs.Scans.{proper_read, reach_on, reach_same}
 use Rattle.ranges.proofs.scan.reached.Goals as goal
 use Rattle.ranges.proofs.scan.reached.Goals.{then-has_page, else-has_page}
 
-pub has-page-requires : goal.has-page-requires
-has-page-requires g c = proper_read g.E.Element.shape _ _ _ c.loop-row-test.true c.row-item.is 0 c.requires
+pub has_page-requires : goal.has_page-requires
+has_page-requires g c = proper_read g.E.Element.shape _ _ _ c.loop-row-test.true c.row-item.is 0 c.requires
 
-pub end-of-page-requires : goal.end-of-page-requires
-end-of-page-requires g c = proper_read g.E.Element.shape _ _ _ c.loop-row-test.true c.row-item.is 0 c.requires
+pub end_of-page-requires : goal.end_of-page-requires
+end_of-page-requires g c = proper_read g.E.Element.shape _ _ _ c.loop-row-test.true c.row-item.is 0 c.requires
 
 pub loop-row-preserved : goal.loop-row-preserved
 loop-row-preserved g c =
     let S = g.E.Element.shape in
     c.loop-row.invariant ∙ elim c.if-has_page.branch [
-      | then-has_page w ↦ reach_on S _ _ _ c.loop-row-test.true c.row-item.is _ _ (sym c.has-page.ensures ∙ w.if-has-page.true) (w.page-is ∙ w.end-of-page.ensures)
-      | else-has_page w ↦ reach_same S _ _ _ c.loop-row-test.true c.row-item.is _ _ (sym c.has-page.ensures ∙ w.if-has-page.false) w.page-is
+      | then-has_page w ↦ reach_on S _ _ _ c.loop-row-test.true c.row-item.is _ _ (sym c.has_page.ensures ∙ w.if-has_page.true) (w.page-is ∙ w.end_of-page.ensures)
+      | else-has_page w ↦ reach_same S _ _ _ c.loop-row-test.true c.row-item.is _ _ (sym c.has_page.ensures ∙ w.if-has_page.false) w.page-is
     ]
 
 pub returns : goal.returns

@@ -32,8 +32,8 @@ split-count-requires g c =
       room = half_room S L xs c.args.len c.requires.within c.requires.rising _ _ low _ _ c.extra.ensures.count c.extra-2.ensures.count ys _ c.if-rows-len.false long c.split-half.ensures.count c.split-half.ensures.table;
     }
 
-pub slice-bounds-alter-end : goal.slice-bounds-alter-end
-slice-bounds-alter-end g c =
+pub slice_bounds-alter-end : goal.slice_bounds-alter-end
+slice_bounds-alter-end g c =
     let some = c.args.range.some in
     let low : c.first-from.result < c.end-to.result = omega (arith, c.first-from.ensures, c.end-to.ensures) in
     let ys = c.split-half.new.rows in

@@ -6,8 +6,8 @@ use Rattle.ranges.proofs.Facts.{used}
 use Rattle.ranges.proofs.Edits.{count_is, fits_rows, same_removed, squeezed_is, around_full, remove_says, remove_rises}
 use Rattle.ranges.proofs.table.remove.Goals as goal
 
-pub returns-in-default : goal.returns-in-default
-returns-in-default g c =
+pub returns-in_default : goal.returns-in_default
+returns-in_default g c =
     let S = g.E.Element.shape in
     let L = g.E.Element.laws in
     let xs = c.args.rows.now in

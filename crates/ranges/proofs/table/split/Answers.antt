@@ -4,11 +4,11 @@ use Rattle.ranges.specs.Tables.{cut}
 use Rattle.ranges.proofs.Edits.{around_more, around_used, cut_uncut}
 use Rattle.ranges.proofs.table.split.Goals as goal
 
-pub returns-in-default : goal.returns-in-default
-returns-in-default g c =
+pub returns-in_default : goal.returns-in_default
+returns-in_default g c =
     let xs = c.args.rows.now in
     let len = c.args.len in
-    let same = cut_uncut g.E.Element.shape xs len c.requires.within c.requires.rising c.args.page c.in-default.ensures in
+    let same = cut_uncut g.E.Element.shape xs len c.requires.within c.requires.rising c.args.page c.in_default.ensures in
     record { count = sym (ap length same ∙ length-take-le len xs c.requires.within); table = sym same }
 
 pub divide-requires : goal.divide-requires
@@ -25,8 +25,8 @@ divide-requires g c =
       around = around_used S p p len _ xs c.in-Some.ensures;
     }
 
-pub overflow-add-result : goal.overflow-add-result
-overflow-add-result g c =
+pub overflow_add-result : goal.overflow_add-result
+overflow_add-result g c =
     let S = g.E.Element.shape in
     let xs = c.args.rows.now in
     let len = c.args.len in

@@ -11,6 +11,6 @@ returns-in-Exit c M s h = performs M s _ _ _ _ _ c.in-Exit.is refl c.bare-in-Exi
 pub returns-in-Usage : goal.returns-in-Usage
 returns-in-Usage c M s h = performs M s _ _ _ _ _ c.in-Usage.is refl refl (c.usage.ensures M s h)
 
-pub returns-in-default : goal.returns-in-default
-returns-in-default c M s h =
-    passes_over M s _ _ (unperformed c.args.command c.in-default.not-Create c.in-default.not-Exit c.in-default.not-Usage) h
+pub returns-in_default : goal.returns-in_default
+returns-in_default c M s h =
+    passes_over M s _ _ (unperformed c.args.command c.in_default.not-Create c.in_default.not-Exit c.in_default.not-Usage) h

@@ -14,8 +14,8 @@ loop-item-preserved c =
       λ M.
           let before = c.loop-item.invariant.1 M in
           let does = c.perform-answer.ensures M before.0 before.1 in
-          (_, does.next, one_more M _ _ _ _ _ _ _ _ _ reads.begins does.answer c.in-ok-push-line.ensures before.2),
+          (_, does.next, one_more M _ _ _ _ _ _ _ _ _ reads.begins does.answer c.in_ok-push_line.ensures before.2),
     )
 
 pub returns : goal.returns
-returns c M = let before = c.loop-item.invariant.1 M in none_left M _ _ _ _ _ c.in-default.ensures.none before.2
+returns c M = let before = c.loop-item.invariant.1 M in none_left M _ _ _ _ _ c.in_default.ensures.none before.2

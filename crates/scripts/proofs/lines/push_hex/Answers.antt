@@ -5,7 +5,7 @@ use Rattle.scripts.proofs.lines.push_hex.Goals as goal
 pub returns : goal.returns
 returns c =
     two_more _ _ _ _ _ _ _
-    c.in-ok-push.ensures.bytes
-    (c.push.ensures.ascii c.hex-digit.ensures.ascii ∙ ap (λ d. d ∷ []) c.hex-digit.ensures.digit)
-    c.in-ok-push-2.ensures.bytes
-    (c.push-2.ensures.ascii c.hex-digit-2.ensures.ascii ∙ ap (λ d. d ∷ []) c.hex-digit-2.ensures.digit)
+    c.in_ok-push.ensures.bytes
+    (c.push.ensures.ascii c.hex_digit.ensures.ascii ∙ ap (λ d. d ∷ []) c.hex_digit.ensures.digit)
+    c.in_ok-push-2.ensures.bytes
+    (c.push-2.ensures.ascii c.hex_digit-2.ensures.ascii ∙ ap (λ d. d ∷ []) c.hex_digit-2.ensures.digit)

@@ -3,4 +3,4 @@ use Rattle.scripts.proofs.Joining.{four_numbers}
 use Rattle.scripts.proofs.lines.usage_text.Goals as goal
 
 pub returns : goal.returns
-returns c = c.in-ok-text.ensures ∙ sym (four_numbers c.args.counts (search rules))
+returns c = c.in_ok-text.ensures ∙ sym (four_numbers c.args.counts (search rules))

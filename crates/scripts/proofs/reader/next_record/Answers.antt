@@ -10,9 +10,9 @@ returns-in-len1 c = reads_lone c.args.script.now (search rules)
 
 pub returns-in-Some : goal.returns-in-Some
 returns-in-Some c =
-    reads_more c.args.script.now c.from-be-bytes-size.result _ _ c.parsed.result (search rules) (search rules)
+    reads_more c.args.script.now c.from_be_bytes-size.result _ _ c.parsed.result (search rules) (search rules)
     c.in-Some.ensures c.parsed.ensures
 
 pub returns-in-None : goal.returns-in-None
 returns-in-None c =
-    reads_short c.args.script.now c.from-be-bytes-size.result (search rules) (search rules) c.in-None.ensures
+    reads_short c.args.script.now c.from_be_bytes-size.result (search rules) (search rules) c.in-None.ensures

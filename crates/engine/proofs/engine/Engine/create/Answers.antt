@@ -2,29 +2,29 @@ use Rattle.std.proofs.Common.{◌<◌, true, false, length, sym, refl, rules}
 use Rattle.std.proofs.lemmas.Bool.{both_ways}
 use Rattle.std.proofs.lemmas.Result.{err_from_is_err_and}
 use Rattle.machine.specs.Step.{step, with_task}
-use Rattle.engine.proofs.Tasks.{stands-put}
-use Rattle.engine.proofs.Places.{create_refused, create-made}
+use Rattle.engine.proofs.Tasks.{stands_put}
+use Rattle.engine.proofs.Places.{create_refused, create_made}
 use Rattle.engine.proofs.Relation.{follows, refused_follows}
 use Rattle.engine.proofs.engine.Engine.create.Goals as goal
 
-pub returns-in-err-at : goal.returns-in-err-at
+pub returns-in_err-at : goal.returns-in_err-at
 unfolding step
-returns-in-err-at c =
+returns-in_err-at c =
     let p = err_from_is_err_and c.from-residual.result c.from-residual.ensures.1 in
     record {
       refusal = λ e. refl;
-      machine = λ M s h. refused_follows M s _ _ _ _ _ p.1 p.2 (create_refused _ s c.args.task h.tasks _ c.in-err-at.ensures.value) h;
+      machine = λ M s h. refused_follows M s _ _ _ _ _ p.1 p.2 (create_refused _ s c.args.task h.tasks _ c.in_err-at.ensures.value) h;
     }
 
 pub returns : goal.returns
 unfolding step with_task
 returns c =
-    let k = c.in-ok-at.at in
+    let k = c.in_ok-at.at in
     let lt : k < length c.args.self.now.living = search rules in
     record {
       refusal = λ e. absurd (both_ways true e refl);
       machine = λ M s h.
-          let does = create-made _ s c.args.task h.tasks k c.in-ok-at.ensures.value in
+          let does = create_made _ s c.args.task h.tasks k c.in_ok-at.ensures.value in
           follows M s _ _ _ _ does.1
-          (record { frames = h.frames; tasks = stands-put _ s c.args.task k true h.tasks does.0 lt });
+          (record { frames = h.frames; tasks = stands_put _ s c.args.task k true h.tasks does.0 lt });
     }

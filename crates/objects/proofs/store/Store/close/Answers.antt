@@ -4,5 +4,5 @@ use Rattle.objects.proofs.store.Store.close.Goals as goal
 pub close-requires : goal.close-requires
 close-requires c = store_sound c.args.self.now
 
-pub invariant-of-self : goal.invariant-of-self
-invariant-of-self c = sound_fields c.close.new.self c.close.ensures.sound
+pub invariant_of-self : goal.invariant_of-self
+invariant_of-self c = sound_fields c.close.new.self c.close.ensures.sound

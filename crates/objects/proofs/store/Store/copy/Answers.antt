@@ -4,8 +4,8 @@ use Rattle.objects.proofs.store.Store.copy.Goals as goal
 pub copy-requires : goal.copy-requires
 copy-requires c = store_sound c.args.self.now
 
-pub invariant-of-self : goal.invariant-of-self
-invariant-of-self c = sound_fields c.copy.new.self c.copy.ensures.sound
+pub invariant_of-self : goal.invariant_of-self
+invariant_of-self c = sound_fields c.copy.new.self c.copy.ensures.sound
 
 pub returns : goal.returns
 returns c = record {

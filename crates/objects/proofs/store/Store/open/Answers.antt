@@ -5,8 +5,8 @@ use Rattle.objects.proofs.store.Store.open.Goals as goal
 pub open-requires : goal.open-requires
 open-requires c = store_sound c.args.self.now
 
-pub invariant-of-self : goal.invariant-of-self
-invariant-of-self c = sound_fields c.open.new.self c.open.ensures.sound
+pub invariant_of-self : goal.invariant_of-self
+invariant_of-self c = sound_fields c.open.new.self c.open.ensures.sound
 
 pub returns : goal.returns
 returns c = record {

@@ -7,8 +7,8 @@ use Rattle.objects.proofs.store.Store.put.Goals as goal
 pub put-requires : goal.put-requires
 put-requires c = store_sound c.args.self.now
 
-pub invariant-of-self : goal.invariant-of-self
-invariant-of-self c = sound_fields c.put.new.self c.put.ensures.sound
+pub invariant_of-self : goal.invariant_of-self
+invariant_of-self c = sound_fields c.put.new.self c.put.ensures.sound
 
 pub returns : goal.returns
 returns c = record {

@@ -3,12 +3,12 @@ use Rattle.std.proofs.lemmas.Bool.{both_ways}
 use Rattle.objects.proofs.Effects.{uses_none, frame_held, close_ready, closes}
 use Rattle.objects.proofs.tables.Tables.close.Goals as goal
 
-pub returns-in-default : goal.returns-in-default
-returns-in-default c = record {
+pub returns-in_default : goal.returns-in_default
+returns-in_default c = record {
   sound = c.requires;
-  answer = sym (ap is_some c.in-default.is);
+  answer = sym (ap is_some c.in_default.is);
   refused = λ e. refl;
-  uses = uses_none c.args.self.now c.args.sharing c.in-default.is;
+  uses = uses_none c.args.self.now c.args.sharing c.in_default.is;
   keeps = λ k i u d. refl;
   frees = λ s. inr refl;
   reached = λ k i s u d h. frame_held c.args.self.now c.requires k i s h;

@@ -6,10 +6,10 @@ use Rattle.objects.proofs.tables.Tables.copy.Goals as goal
 
 pub returns : goal.returns
 returns c =
-    let x = copies_to c.args.self.now c.name.new.self c.requires c.args.sharing c.in-ok-object.object c.in-ok-fresh.fresh c.name.ensures.size c.in-ok-object.was c.in-ok-fresh.ensures c.name.ensures.tables in
+    let x = copies_to c.args.self.now c.name.new.self c.requires c.args.sharing c.in_ok-object.object c.in_ok-fresh.fresh c.name.ensures.size c.in_ok-object.was c.in_ok-fresh.ensures c.name.ensures.tables in
     record {
       sound = x.sound;
-      answer = c.in-ok-fresh.ensures ∙ sym (ap (λ y. cond (is_some y) (unused_record c.args.self.now) None) c.in-ok-object.was);
+      answer = c.in_ok-fresh.ensures ∙ sym (ap (λ y. cond (is_some y) (unused_record c.args.self.now) None) c.in_ok-object.was);
       refused = λ e. absurd (none_some _ e refl);
       uses = x.uses;
       copies = x.copies;

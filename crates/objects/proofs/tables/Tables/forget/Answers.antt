@@ -18,9 +18,9 @@ returns-in-Shadow c =
     let none : weight_of t o ≡ 0 = eqb-true _ 0 (sym c.is_unused.ensures ∙ c.if-not-is_unused.false) in
     forget_shadow t c.requires.formed o c.requires.others c.free.new.self c.free.ensures.rows c.free.ensures.records none (object_below t c.requires.formed o c.requires.live) c.free.ensures.objects c.free.ensures.frames c.settle-in-Shadow.new.self c.settle-in-Shadow.ensures
 
-pub returns-in-default : goal.returns-in-default
-returns-in-default c =
+pub returns-in_default : goal.returns-in_default
+returns-in_default c =
     let t = c.args.self.now in
     let o = c.args.object in
-    let none : weight_of t o ≡ 0 = eqb-true _ 0 (sym c.is-unused.ensures ∙ c.if-not-is-unused.false) in
-    forget_rest t c.requires.formed o c.requires.others c.free.new.self c.free.ensures.rows c.free.ensures.records none (object_below t c.requires.formed o c.requires.live) c.free.ensures.objects c.free.ensures.frames c.requires.live (λ p h. c.in-default.not-Shadow p (c.free.ensures.row ∙ h))
+    let none : weight_of t o ≡ 0 = eqb-true _ 0 (sym c.is_unused.ensures ∙ c.if-not-is_unused.false) in
+    forget_rest t c.requires.formed o c.requires.others c.free.new.self c.free.ensures.rows c.free.ensures.records none (object_below t c.requires.formed o c.requires.live) c.free.ensures.objects c.free.ensures.frames c.requires.live (λ p h. c.in_default.not-Shadow p (c.free.ensures.row ∙ h))

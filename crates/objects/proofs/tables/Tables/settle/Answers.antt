@@ -14,5 +14,5 @@ returns-in-Some c =
     settle_collapse t c.requires.formed c.args.object c.requires.others c.collapse.new.self c.collapse.ensures.rows c.collapse.ensures.records c.in-Some.shadow
     (eqb-true _ 1 (sym c.is_single.ensures ∙ c.if-not-is_single.false)) c.in-Some.ensures c.collapse.ensures.objects c.collapse.ensures.frames
 
-pub returns-in-default : goal.returns-in-default
-returns-in-default c = absurd (upper_there c.args.self.now c.requires.formed c.args.object (eqb-true _ 1 (sym c.is-single.ensures ∙ c.if-not-is-single.false)) c.in-default.ensures)
+pub returns-in_default : goal.returns-in_default
+returns-in_default c = absurd (upper_there c.args.self.now c.requires.formed c.args.object (eqb-true _ 1 (sym c.is_single.ensures ∙ c.if-not-is_single.false)) c.in_default.ensures)

@@ -14,6 +14,6 @@ loop-i-preserved c =
 
 pub returns : goal.returns
 returns c = record {
-  exactly = parted_good c.args.file.now c.loop-i.i c.short-pages.result c.loop-i.rows c.loop-i-test.false c.loop-i.auto.i-end c.loop-i.invariant.1 (sym c.is-headed.ensures ∙ c.if-not-is-headed.false);
+  exactly = parted_good c.args.file.now c.loop-i.i c.short-pages.result c.loop-i.rows c.loop-i-test.false c.loop-i.auto.i-end c.loop-i.invariant.1 (sym c.is_headed.ensures ∙ c.if-not-is_headed.false);
   meaning = parted_meaning c.args.file.now c.loop-i.i c.short-pages.result c.loop-i.rows c.loop-i-test.false c.loop-i.auto.i-end c.loop-i.invariant.1 c.short-pages.ensures;
 }
