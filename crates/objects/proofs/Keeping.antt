@@ -20,9 +20,18 @@ use Rattle.objects.proofs.Edits.{repeated}
 use Rattle.objects.proofs.Ends.{chain_few, used_top, walk_of, end_is, end_none}
 use Rattle.objects.proofs.Effects.{not_some, dead_free, frame_held}
 
--- a store's fields, in order
+-- a store's fields
 abbrev pub Fields : Tables → Type 0
-Fields t = ObjectsFew t × (RecordsFew t × (FramesFew t × (TopsLive t × (ChainsEnd t × (OwnersLive t × (OwnersApart t × (AllSettled t × Unit {0})))))))
+Fields t = record {
+  objects : ObjectsFew t;
+  records : RecordsFew t;
+  frames : FramesFew t;
+  tops : TopsLive t;
+  chains : ChainsEnd t;
+  owners : OwnersLive t;
+  apart : OwnersApart t;
+  settled : AllSettled t;
+}
 
 pub fields_sound : (t : Tables) → ObjectsFew t → RecordsFew t → FramesFew t → TopsLive t → ChainsEnd t → OwnersLive t → OwnersApart t → AllSettled t → SoundTables t
 fields_sound t objects records frames tops chains owners apart settled = record {
@@ -39,28 +48,16 @@ fields_sound t objects records frames tops chains owners apart settled = record 
 }
 
 pub sound_fields : (t : Tables) → SoundTables t → Fields t
-sound_fields t S = (
-  λ o l. ap live (S.formed.objects o l),
-  (
-    λ r l. ap is_some (S.formed.records r l),
-    (
-      λ s l. ap is_some (S.formed.frames s l),
-      (
-        S.formed.tops,
-        (
-          λ o l. let c = S.formed.chained o l in chain_ends 256 c.1 (omega (arith, chain_few t S o c.0 c.1, count_le (in_use t) 256)),
-          (
-            S.formed.owners,
-            (
-              λ s k h. apart s k (owner_of t s) refl h.0 h.1,
-              (S.settled, tt),
-            ),
-          ),
-        ),
-      ),
-    ),
-  ),
-)
+sound_fields t S = record {
+  objects = λ o l. ap live (S.formed.objects o l);
+  records = λ r l. ap is_some (S.formed.records r l);
+  frames = λ s l. ap is_some (S.formed.frames s l);
+  tops = S.formed.tops;
+  chains = λ o l. let c = S.formed.chained o l in chain_ends 256 c.1 (omega (arith, chain_few t S o c.0 c.1, count_le (in_use t) 256));
+  owners = S.formed.owners;
+  apart = λ s k h. apart s k (owner_of t s) refl h.0 h.1;
+  settled = S.settled;
+}
   where
     apart : (s k : ℕ) (x : Option Owner) → owner_of t s ≡ x → owner_of t s ≡ owner_of t k → is_held t s ≡ true → s ≡ k
     apart s k None e h u = absurd (both_ways (is_held t s) (ap is_some e) u)

@@ -4,4 +4,3 @@ pub mod Ends
 pub mod Effects
 pub mod Placing
 pub mod Keeping
-pub mod Stores

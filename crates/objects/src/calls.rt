@@ -87,7 +87,7 @@ impl Store {
         ensures answer { result ≡ unused_record self.old.tables }
         ensures full { result ≡ None → records_used self.old.tables ≡ 256 }
         ensures refused { result ≡ None → self.new.tables ≡ self.old.tables }
-        ensures uses { found result (UsesMore self.old.tables self.new.tables) }
+        ensures uses { IfSome result (UsesMore self.old.tables self.new.tables) }
         ensures starts { IfSome result (λ n. Starts self.new.tables n origin) }
         ensures keeps { KeepsWalks self.old.tables self.new.tables }
         ensures frames { self.new.tables.frames ≡ self.old.tables.frames }
@@ -100,7 +100,7 @@ impl Store {
         ensures answer { result ≡ (if in_use self.old.tables sharing then unused_record self.old.tables else None) }
         ensures full { result ≡ None → in_use self.old.tables sharing ≡ true → records_used self.old.tables ≡ 256 }
         ensures refused { result ≡ None → self.new.tables ≡ self.old.tables }
-        ensures uses { found result (UsesMore self.old.tables self.new.tables) }
+        ensures uses { IfSome result (UsesMore self.old.tables self.new.tables) }
         ensures copies { IfSome result (λ n. Copies self.old.tables self.new.tables n sharing) }
         ensures keeps { KeepsWalks self.old.tables self.new.tables }
         ensures frames { self.new.tables.frames ≡ self.old.tables.frames }

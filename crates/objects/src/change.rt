@@ -18,7 +18,7 @@ impl Tables {
         ensures sound { SoundTables self.new }
         ensures answer { result ≡ unused_record self.old }
         ensures refused { result ≡ None → self.new ≡ self.old }
-        ensures uses { found result (UsesMore self.old self.new) }
+        ensures uses { IfSome result (UsesMore self.old self.new) }
         ensures starts { IfSome result (λ n. Starts self.new n origin) }
         ensures keeps { KeepsWalks self.old self.new }
         ensures frames { self.new.frames ≡ self.old.frames }
@@ -35,7 +35,7 @@ impl Tables {
         ensures sound { SoundTables self.new }
         ensures answer { result ≡ (if in_use self.old sharing then unused_record self.old else None) }
         ensures refused { result ≡ None → self.new ≡ self.old }
-        ensures uses { found result (UsesMore self.old self.new) }
+        ensures uses { IfSome result (UsesMore self.old self.new) }
         ensures copies { IfSome result (λ n. Copies self.old self.new n sharing) }
         ensures keeps { KeepsWalks self.old self.new }
         ensures frames { self.new.frames ≡ self.old.frames }

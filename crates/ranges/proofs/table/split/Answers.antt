@@ -32,7 +32,7 @@ overflow_add-result g c =
     let len = c.args.len in
     let p = c.args.page in
     let more : length (cut S p (take len xs)) ≡ len + 1 = around_more S xs len c.requires.within c.requires.rising p p _ (omega arith) c.in-Some.ensures in
-    omega (arith, c.requires.room, c.well-formed.0.0)
+    omega (arith, c.requires.room, c.well_formed.0.0)
 
 pub returns : goal.returns
 returns g c =
