@@ -9,5 +9,5 @@ returns c =
     let from = c.min-from.result in
     record {
       is = body_is file from c.args.extents c.min-from.ensures;
-      fits = λ k. taken_fits (length file - from) from k file (λ j. omega (arith, c.type-inv.file j));
+      fits = λ k. taken_fits (length file - from) from k file (λ j. omega (arith, c.type_inv.file j));
     }
