@@ -10,7 +10,7 @@ use Rattle.engine.proofs.engine.Engine.exit.Goals as goal
 pub returns-in_err-at : goal.returns-in_err-at
 unfolding step
 returns-in_err-at c =
-    let p = err_from_is_err_and c.from-residual.result c.from-residual.ensures.1 in
+    let p = err_from_is_err_and c.from_residual.result c.from_residual.ensures.1 in
     record {
       refusal = λ e. refl;
       machine = λ M s h. refused_follows M s _ _ _ _ _ p.1 p.2 (exit_refused _ s c.args.task h.tasks _ c.in_err-at.ensures.value) h;
