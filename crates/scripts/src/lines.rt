@@ -58,7 +58,7 @@ pub fn push_numbers(
     ensures text { OnOk result (string_bytes out.new ≡ string_bytes out.old ++ row number (decimal answer ++ spaced carried.now)) }
     ensures adds { OnOk result (Adds (string_bytes out.old) (string_bytes out.new) number (decimal answer ++ spaced carried.now)) }
 {
-    let text = numbers_text(out.allocator(), answer, carried)?;
+    let text = numbers_text(*out.allocator(), answer, carried)?;
     push_row(out, number, &text)
 }
 
@@ -74,7 +74,7 @@ fn usage_text(heap: Global, counts: [u32; 4]) -> Result<String, AllocError>
 pub fn push_counts(out: &mut String, number: usize, counts: [u32; 4]) -> Result<(), AllocError>
     ensures { OnOk result (string_bytes out.new ≡ string_bytes out.old ++ line number (usage_answer counts)) }
 {
-    let text = usage_text(out.allocator(), counts)?;
+    let text = usage_text(*out.allocator(), counts)?;
     push_row(out, number, &text)
 }
 
@@ -124,6 +124,6 @@ fn bytes_text(heap: Global, bytes: &[u8]) -> Result<String, AllocError>
 pub fn push_bytes(out: &mut String, number: usize, bytes: &[u8]) -> Result<(), AllocError>
     ensures { OnOk result (string_bytes out.new ≡ string_bytes out.old ++ line number (replied (gives bytes.now))) }
 {
-    let text = bytes_text(out.allocator(), bytes)?;
+    let text = bytes_text(*out.allocator(), bytes)?;
     push_row(out, number, &text)
 }
