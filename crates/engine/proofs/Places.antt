@@ -2,7 +2,7 @@
 use Rattle.std.proofs.Common.{◌≡◌, ℕ, Bool, true, false, cond, List, get_or, Some, None, Ok, Err, Option, Result, sym, refl, ap, ◌∙◌, arith}
 use Rattle.machine.specs.Calls.{done}
 use Rattle.machine.specs.State.{State}
-use Rattle.machine.specs.Step.{Outcome, created, ended, with_task}
+use Rattle.machine.specs.Step.{created, ended, with_task}
 use Rattle.engine.specs.declared.engine.Refusal.{Refusal}
 use Rattle.engine.specs.declared.engine.Refusal.TheVariants.{NoTask, Living}
 use Rattle.engine.specs.Relation.{place_of, entries_if, refusal}

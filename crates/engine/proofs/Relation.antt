@@ -1,5 +1,5 @@
 -- An engine follows the machine where the machine's outcome is known.
-use Rattle.std.proofs.Common.{◌≡◌, Ok, Err, Result, sym, ap, ◌∙◌, subst}
+use Rattle.std.proofs.Common.{◌≡◌, Err, Result, sym, ap, ◌∙◌, subst}
 use Rattle.pagers.specs.Meaning.{Meaning}
 use Rattle.machine.specs.Calls.{Call, Reply}
 use Rattle.machine.specs.State.{State}

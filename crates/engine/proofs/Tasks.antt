@@ -1,12 +1,11 @@
 -- Living tasks in the engine's rows and in the machine's state.
-use Rattle.std.proofs.Common.{◌≡◌, ℕ, zero, suc, ◌-◌, ◌<◌, ◌≤◌, Bool, true, false, cond, not, ◌&&◌, ◌||◌, eqb, leb, ◌⊎◌, List, [], ◌∷◌, length, get_or, set, replicate, is_some, Some, None, Option, unwrap_or, sym, refl, ap, ◌∙◌, subst, inl, inr, arith}
+use Rattle.std.proofs.Common.{◌≡◌, ℕ, zero, suc, ◌-◌, ◌<◌, Bool, true, false, cond, not, ◌&&◌, leb, ◌⊎◌, List, [], ◌∷◌, length, get_or, set, replicate, is_some, Some, None, Option, unwrap_or, sym, refl, ap, ◌∙◌, inl, inr, arith}
 use Rattle.std.specs.List.{flat_map}
-use Rattle.std.proofs.lemmas.Bool.{both_ways, cases_Bool, cases_eq, eq-eqb, ne_eqb, leb-true, and_parts}
+use Rattle.std.proofs.lemmas.Bool.{cases_eq, eq-eqb, ne_eqb, leb-true, and_parts}
 use Rattle.std.proofs.lemmas.List.{get_or-set_same, get_or-set_other}
-use Rattle.machine.specs.declared.words.Entry.{Entry}
-use Rattle.machine.specs.Calls.{Reply, done, counts, refused}
+use Rattle.machine.specs.Calls.{done, counts, refused}
 use Rattle.machine.specs.State.{State, start, numbers, table, lives, all_entries, living_cells, living_marks, living_records, distinct}
-use Rattle.machine.specs.Step.{Outcome, judged, refuse, accepted, misnumbered, missing, created, ended, counted, with_task}
+use Rattle.machine.specs.Step.{judged, accepted, misnumbered, missing, created, ended, counted, with_task}
 use Rattle.machine.proofs.Judged.{passes, stops}
 use Rattle.engine.specs.Relation.{place_of, row_at, entries_if}
 

@@ -1,14 +1,14 @@
 -- The machine's own laws.
-use Rattle.std.proofs.Common.{◌≡◌, ℕ, suc, ◌%◌, ◌<◌, ◌≤◌, Bool, true, false, cond, ◌&&◌, eqb, List, [], ◌∷◌, Some, None, Option, sym, refl, ap, ◌∙◌, subst, arith}
+use Rattle.std.proofs.Common.{◌≡◌, ℕ, suc, ◌%◌, ◌<◌, ◌≤◌, Bool, true, false, cond, ◌&&◌, eqb, List, [], ◌∷◌, Some, None, Option, sym, refl, ap, ◌∙◌, arith}
 use Rattle.std.proofs.lemmas.Bool.{both_ways, cond_both, eq-eqb}
 use Rattle.pagers.specs.Meaning.{Content, Meaning, bytes, damaged}
 use Rattle.machine.specs.declared.words.Entry.{Entry}
 use Rattle.machine.specs.declared.words.Inheritance.{Inheritance}
 use Rattle.machine.specs.declared.words.Inheritance.TheVariants.{Share, Copy, None as Left}
 use Rattle.machine.specs.Calls.{Source, Call, create, map_pages, unmap, protect, inherit, fork, write, read, exit, usage, done}
-use Rattle.machine.specs.State.{Cell, State, content_of, untouched, along, start, table, new_record}
-use Rattle.machine.specs.Step.{Outcome, judged, accepted, created, mapped, map_on, unmapped, set_over, forked, handed, handed_all, given, copied_on, read_from, write_to, after_write, written, ended, counted, with_task, with_record, with_cell, refuse_damage, cell_of, entry_at, step, after}
-use Rattle.machine.specs.Laws.{refuses, RefusalsKeep, Sourced, SourcesKept, NewMark, MarksNew}
+use Rattle.machine.specs.State.{Cell, State, content_of, untouched, along, start}
+use Rattle.machine.specs.Step.{accepted, created, mapped, map_on, unmapped, set_over, forked, handed, handed_all, given, copied_on, read_from, write_to, after_write, written, ended, counted, with_task, with_record, with_cell, refuse_damage, cell_of, entry_at, step, after}
+use Rattle.machine.specs.Laws.{RefusalsKeep, Sourced, SourcesKept, MarksNew}
 use Rattle.machine.proofs.Judged.{judged_keeps, judged_both, judged_done, passed, next_test, Refusing, refuse_refuses}
 
 pub refusals_keep : RefusalsKeep

@@ -1,5 +1,5 @@
 -- Map entries as elements of a range table, and the changes that protect and inherit make.
-use Rattle.std.specs.Prelude.{◌≡◌, ℕ, ◌+◌, ◌-◌, nat_le, refl}
+use Rattle.std.specs.Prelude.{ℕ, ◌+◌, ◌-◌, nat_le, refl}
 use Rattle.std.proofs.Common.{ap, arith}
 use Rattle.std.proofs.lemmas.Bool.{leb-true, le-leb}
 use Rattle.ranges.specs.Shape.{Shape, Laws, Altering}

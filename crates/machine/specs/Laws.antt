@@ -1,10 +1,10 @@
 -- Laws of the copying machine itself.
-use Rattle.std.specs.Prelude.{◌≡◌, ℕ, Bool, true, false, List, Some, None, Option, ◌≢◌}
+use Rattle.std.specs.Prelude.{◌≡◌, ℕ, Bool, true, false, List, Some, None, ◌≢◌}
 use Rattle.pagers.specs.Meaning.{Meaning}
 use Rattle.machine.specs.declared.words.Entry.{Entry}
 use Rattle.machine.specs.Calls.{Call, write, Reply, done, gives, counts, refused, faulty}
-use Rattle.machine.specs.State.{Cell, State, content_of, start}
-use Rattle.machine.specs.Step.{Outcome, entry_at, step, after}
+use Rattle.machine.specs.State.{State, content_of, start}
+use Rattle.machine.specs.Step.{entry_at, step, after}
 
 -- the reply is a refusal
 abbrev pub refuses : Reply → Bool

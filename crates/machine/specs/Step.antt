@@ -1,5 +1,5 @@
 -- What each call does: its tests in their order, and the state that an accepted call leaves.
-use Rattle.std.specs.Prelude.{ℕ, zero, suc, ◌+◌, ◌*◌, ◌/◌, ◌%◌, Bool, true, false, cond, not, ◌&&◌, ◌||◌, List, [], ◌∷◌, ◌++◌, length, take, drop, replicate, is_some, Some, None, Option, ◌==◌, nat_le, nat_lt}
+use Rattle.std.specs.Prelude.{ℕ, suc, ◌+◌, ◌*◌, ◌/◌, ◌%◌, Bool, true, false, cond, not, ◌&&◌, ◌||◌, List, [], ◌∷◌, ◌++◌, length, take, drop, is_some, Some, None, Option, ◌==◌, nat_le, nat_lt}
 use Rattle.std.specs.Option.{unwrap_or}
 use Rattle.ranges.specs.Tables.{said, taken, inserted, removed, altered, covered}
 use Rattle.pagers.specs.Meaning.{Content, Meaning, bytes, damaged}
@@ -9,7 +9,7 @@ use Rattle.machine.specs.declared.words.Inheritance.{Inheritance}
 use Rattle.machine.specs.declared.words.Inheritance.TheVariants.{Share, Copy, None as Left}
 use Rattle.machine.specs.Words.{protection_at, inheritance_at, rank}
 use Rattle.machine.specs.Entries.{entry_shape, protected, inheriting, resting}
-use Rattle.machine.specs.Calls.{Source, zeros, page_of, Call, create, map_pages, unmap, protect, inherit, fork, write, read, exit, usage, Fault, Reply, done, gives, counts, refused, faulty}
+use Rattle.machine.specs.Calls.{Source, zeros, page_of, Call, create, map_pages, unmap, protect, inherit, fork, write, read, exit, usage, Reply, done, gives, counts, refused, faulty}
 use Rattle.machine.specs.State.{Cell, State, untouched, along, table, lives, all_entries, living_marks, living_records, new_record}
 
 -- what a call answers, and the state after it

@@ -1,5 +1,5 @@
 -- Protections and inheritances as the numbers that callers write.
-use Rattle.std.specs.Prelude.{ℕ, zero, suc, Bool, cond}
+use Rattle.std.specs.Prelude.{ℕ, zero, suc}
 use Rattle.machine.specs.declared.words.Protection.{Protection}
 use Rattle.machine.specs.declared.words.Protection.TheVariants.{Read, ReadWrite, None as Closed}
 use Rattle.machine.specs.declared.words.Inheritance.{Inheritance}

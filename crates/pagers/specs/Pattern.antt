@@ -1,5 +1,5 @@
 -- The pattern: object 0 alone has pages, 64 of them.
-use Rattle.std.specs.Prelude.{ℕ, zero, suc, ◌+◌, ◌*◌, ◌%◌, cond, List, [], ◌∷◌, ◌==◌}
+use Rattle.std.specs.Prelude.{ℕ, zero, suc, ◌*◌, ◌%◌, cond, List, [], ◌∷◌, ◌==◌}
 use Rattle.pagers.specs.Meaning.{Meaning, bytes}
 
 -- the n bytes that count up from b, each taken modulo 256

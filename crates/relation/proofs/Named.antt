@@ -14,7 +14,7 @@ use Rattle.chains.specs.declared.End.TheVariants.{Frame, Zeros, Page}
 use Rattle.objects.specs.declared.tables.Tables.{Tables}
 use Rattle.objects.specs.View.{walk_end}
 use Rattle.tasks.specs.declared.task.Task.{Task}
-use Rattle.tasks.specs.Tables.{entries, names}
+use Rattle.tasks.specs.Tables.{names}
 use Rattle.relation.specs.Living.{Living}
 use Rattle.relation.specs.Stands.{place_of, table_of, task_at, tables_of, is_record_named, TasksSound}
 use Rattle.relation.specs.Sweeps.{ends_at, covers_index, is_reaching, is_index_reached, Reached}

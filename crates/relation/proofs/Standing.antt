@@ -13,7 +13,7 @@ use Rattle.objects.specs.declared.tables.Tables.{Tables}
 use Rattle.objects.specs.View.{in_use, is_held, walk_end, SoundTables}
 use Rattle.objects.proofs.Effects.{frame_held}
 use Rattle.tasks.specs.declared.task.Task.{Task}
-use Rattle.tasks.specs.Tables.{entries, names}
+use Rattle.tasks.specs.Tables.{entries}
 use Rattle.relation.specs.Living.{Names, Living, WithinCells, Quiet}
 use Rattle.relation.specs.Stands.{place_of, table_of, shown, tables_of, is_record_named, TasksSound, RecordsNamed, frame_of, Stands}
 use Rattle.relation.specs.Sweeps.{Swept, Cleared}

@@ -1,9 +1,8 @@
 -- What the console makes of an engine's answers.
-use Rattle.std.proofs.Common.{◌≡◌, ℕ, suc, ◌+◌, true, false, cond, List, [], ◌∷◌, ◌++◌, sym, refl, ap, ◌∙◌, subst, append_assoc, append-nil, add-one}
+use Rattle.std.proofs.Common.{◌≡◌, ℕ, ◌+◌, true, false, List, [], ◌∷◌, ◌++◌, sym, refl, ap, ◌∙◌, subst, append_assoc, append-nil, add-one}
 use Rattle.pagers.specs.Meaning.{Meaning}
 use Rattle.machine.specs.Calls.{Call, Reply}
 use Rattle.machine.specs.State.{State}
-use Rattle.machine.specs.Step.{step}
 use Rattle.engine.specs.declared.engine.Engine.{Engine}
 use Rattle.engine.specs.Relation.{Represents, Follows}
 use Rattle.scripts.specs.declared.console.Answer.{Answer as Given}
@@ -13,7 +12,7 @@ use Rattle.scripts.specs.declared.reader.Command.TheVariants.{Create, MapZero, M
 use Rattle.scripts.specs.declared.reader.Record.{Record}
 use Rattle.scripts.specs.declared.reader.Record.TheVariants.{Malformed as Wrong, CutShort as Short}
 use Rattle.scripts.specs.Records.{Item, call, machine_call, item_of}
-use Rattle.scripts.specs.Text.{Answer, replied, line}
+use Rattle.scripts.specs.Text.{replied, line}
 use Rattle.scripts.specs.Transcript.{performed, answered, moved, lines, answer_of, Answers}
 
 -- a call that the engine performs is answered by it

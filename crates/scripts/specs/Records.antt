@@ -1,5 +1,5 @@
 -- What the bytes of a script mean: a list of calls, malformed records and at most one record that is cut short.
-use Rattle.std.specs.Prelude.{◌≡◌, ℕ, zero, suc, ◌+◌, ◌*◌, ◌<◌, ◌≤◌, Bool, cond, ◌&&◌, List, [], ◌∷◌, length, take, drop, ◌==◌, nat_le, nat_lt, slice_index}
+use Rattle.std.specs.Prelude.{◌≡◌, ℕ, zero, suc, ◌+◌, ◌*◌, ◌<◌, ◌≤◌, cond, ◌&&◌, List, [], ◌∷◌, length, take, drop, ◌==◌, nat_le, nat_lt, slice_index}
 use Rattle.machine.specs.Calls.{Call, create, map_pages, unmap, protect, inherit, fork, write, read, exit, usage, zeros, page_of}
 use Rattle.scripts.specs.declared.reader.Command.{Command}
 use Rattle.scripts.specs.declared.reader.Command.TheVariants.{Create, MapZero, MapObject, Unmap, Protect, Inherit, Fork, Write, Read, Exit, Usage}

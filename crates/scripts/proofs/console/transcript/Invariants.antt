@@ -1,4 +1,4 @@
-use Rattle.std.proofs.Common.{◌≡◌, ◌+◌, ◌<◌, ◌≤◌, ◌++◌, length, string_bytes}
+use Rattle.std.proofs.Common.{◌≡◌, ◌+◌, ◌≤◌, ◌++◌, length, string_bytes}
 use Rattle.pagers.specs.Meaning.{Meaning}
 use Rattle.machine.specs.State.{State}
 use Rattle.engine.specs.Relation.{Represents}

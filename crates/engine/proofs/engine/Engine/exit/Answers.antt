@@ -1,4 +1,4 @@
-use Rattle.std.proofs.Common.{◌<◌, true, false, length, sym, refl, rules}
+use Rattle.std.proofs.Common.{◌<◌, true, false, length, refl, rules}
 use Rattle.std.proofs.lemmas.Bool.{both_ways}
 use Rattle.std.proofs.lemmas.Result.{err_from_is_err_and}
 use Rattle.machine.specs.Step.{step, with_task}
