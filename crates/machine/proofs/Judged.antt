@@ -1,7 +1,7 @@
 -- What a row of tests comes to.
 use Rattle.std.proofs.Common.{◌≡◌, ℕ, Bool, true, false, List, [], ◌∷◌, Some, None, Option, refl, ap, arith}
 use Rattle.std.proofs.lemmas.Bool.{both_ways}
-use Rattle.std.specs.List.{AllByRecursion as All}
+use Rattle.std.specs.List.{AllByRecursion}
 use Rattle.machine.specs.Calls.{Reply, done, refused}
 use Rattle.machine.specs.State.{State}
 use Rattle.machine.specs.Step.{Outcome, refuse, judged}
@@ -54,7 +54,7 @@ refuse_refuses n true = refl
 refuse_refuses n false = tt
 
 -- an accepted call leaves the state that it is said to leave
-pub judged_done : (tests : List (Option Reply)) (s : State) (o : Outcome) → All Refusing tests → (judged tests s o).reply ≡ done → (judged tests s o).next ≡ o.next
+pub judged_done : (tests : List (Option Reply)) (s : State) (o : Outcome) → AllByRecursion Refusing tests → (judged tests s o).reply ≡ done → (judged tests s o).next ≡ o.next
 unfolding judged
 judged_done [] s o all e = refl
 judged_done (Some r ∷ tests) s o all e = absurd (both_ways (refuses r) (ap refuses e) all.0)

@@ -1,6 +1,6 @@
 -- Eight worked examples, as one table: a number of frames, a pager, calls, and the replies that the machine gives.
 use Rattle.std.specs.Prelude.{◌≡◌, ℕ, zero, suc, ◌+◌, ◌*◌, cond, List, [], ◌∷◌, ◌++◌, replicate, ◌==◌}
-use Rattle.std.specs.List.{AllByRecursion as All}
+use Rattle.std.specs.List.{AllByRecursion}
 use Rattle.pagers.specs.Meaning.{Meaning, damaged}
 use Rattle.pagers.specs.Pattern.{pattern}
 use Rattle.machine.specs.Calls.{Call, zeros, page_of, create, map_pages, unmap, protect, inherit, fork, write, read, exit, Reply, done, gives, refused, faulty}
@@ -174,4 +174,4 @@ examples =
 
 -- every example holds
 abbrev pub ExamplesHold : Type 0
-ExamplesHold = All Holds examples
+ExamplesHold = AllByRecursion Holds examples
