@@ -127,14 +127,14 @@ no_counts living s h = rw (no_entries living s h) refl
 
 -- At the start
 
-getD_same : (n k : ℕ) → get_or (replicate n false) k false ≡ false
-getD_same zero k = refl
-getD_same (suc n) zero = refl
-getD_same (suc n) (suc k) = getD_same n k
+get_or_same : (n k : ℕ) → get_or (replicate n false) k false ≡ false
+get_or_same zero k = refl
+get_or_same (suc n) zero = refl
+get_or_same (suc n) (suc k) = get_or_same n k
 
 none_living : (n : ℕ) (p : Option ℕ) → row_at (replicate n false) p ≡ false
 none_living n None = refl
-none_living n (Some k) = getD_same n k
+none_living n (Some k) = get_or_same n k
 
 pub stands_start : (n : ℕ) → Stands (replicate 16 false) (start n)
 unfolding start

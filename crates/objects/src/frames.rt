@@ -1,5 +1,5 @@
 // Edits of the whole frame table.
-ghost use Rattle.std.specs.Prelude.{◌≡◌, ℕ, get_or, None, slice_index_or};
+ghost use Rattle.std.specs.Prelude.{◌≡◌, ℕ, None, slice_index_or};
 ghost use Rattle.chains.specs.Walks.{dropped, lifted};
 
 use crate::scan::frame_of;
@@ -28,7 +28,7 @@ fn risen(
     lower: u16,
     upper: u16,
 ) -> Option<Owner>
-    ensures { result ≡ lifted 128 (λ s. get_or before.now s None) lower upper owner }
+    ensures { result ≡ lifted 128 (λ s. slice_index_or before.now s None) lower upper owner }
 {
     match owner {
         None => None,
@@ -59,7 +59,7 @@ pub fn drop_frames(frames: &mut [Option<Owner>; 128], object: u16)
 
 // Moves the frames of `lower` up where `upper` has none for their index, and frees the others.
 pub fn lift_frames(frames: &mut [Option<Owner>; 128], lower: u16, upper: u16)
-    ensures { (s : ℕ) → slice_index_or frames.new s None ≡ lifted 128 (λ k. get_or frames.old k None) lower upper (slice_index_or frames.old s None) }
+    ensures { (s : ℕ) → slice_index_or frames.new s None ≡ lifted 128 (λ k. slice_index_or frames.old k None) lower upper (slice_index_or frames.old s None) }
 {
     let before = *frames;
     for i in 0..128usize {

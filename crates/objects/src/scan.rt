@@ -1,5 +1,5 @@
 // Loops that look through one table and change nothing.
-ghost use Rattle.std.specs.Prelude.{◌≡◌, ◌<◌, min, not, get_or, is_some, Some, None, slice_index_or};
+ghost use Rattle.std.specs.Prelude.{◌≡◌, ◌<◌, min, not, is_some, Some, None, slice_index_or};
 ghost use Rattle.chains.specs.declared.Backing.TheVariants.{Free};
 ghost use Rattle.chains.specs.Rows.{live, is_shadowing, is_naming, is_owned_by, count};
 ghost use Rattle.chains.specs.Walks.{lowest, slot_of};
@@ -89,7 +89,7 @@ pub fn upper(objects: &[Backing; 511], object: u16) -> Option<u16>
 
 // The frame that belongs to the object at the index.
 pub fn frame_of(frames: &[Option<Owner>; 128], object: u16, index: u16) -> Option<u8>
-    ensures { result ≡ slot_of 128 (λ k. get_or frames.now k None) object index }
+    ensures { result ≡ slot_of 128 (λ k. slice_index_or frames.now k None) object index }
 {
     for i in 0..128u8 {
         let owner = frames[i as usize];

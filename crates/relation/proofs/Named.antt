@@ -17,7 +17,7 @@ use Rattle.tasks.specs.declared.task.Task.{Task}
 use Rattle.tasks.specs.Tables.{names}
 use Rattle.relation.specs.Living.{Living}
 use Rattle.relation.specs.Stands.{place_of, table_of, task_at, tables_of, is_record_named, TasksSound}
-use Rattle.relation.specs.Sweeps.{ends_at, covers_index, is_reaching, is_index_reached, Reached}
+use Rattle.relation.specs.Sweeps.{ends_at, covers_index, is_reaching, is_frame_reached, Reached}
 use Rattle.relation.specs.Orderly.{Orderly}
 use Rattle.relation.proofs.Lists.{Among, among_joined, among_part}
 use Rattle.relation.proofs.Cells.{entry_lives, lives_entry, has_number}
@@ -72,7 +72,7 @@ pub named_any : (r : ℕ) (tasks : List Task) → is_record_named r tasks ≡ an
 named_any r [] = refl
 named_any r (x ∷ xs) = rw (names_any r (table_of x), named_any r xs) (sym (any_append (λ e. eqb e.sharing r) (table_of x) (flat_map table_of xs)))
 
-pub reached_any : (t : Tables) (k i : ℕ) (tasks : List Task) → is_index_reached t k i tasks ≡ any (λ e. covers_index i e && ends_at (walk_end t e.sharing i) k) (flat_map table_of tasks)
+pub reached_any : (t : Tables) (k i : ℕ) (tasks : List Task) → is_frame_reached t k i tasks ≡ any (λ e. covers_index i e && ends_at (walk_end t e.sharing i) k) (flat_map table_of tasks)
 reached_any t k i [] = refl
 reached_any t k i (x ∷ xs) = rw (reaches_any t k i (table_of x), reached_any t k i xs) (sym (any_append (λ e. covers_index i e && ends_at (walk_end t e.sharing i) k) (table_of x) (flat_map table_of xs)))
 
@@ -132,7 +132,7 @@ module _ (tasks : List Task) (ok : TasksSound tasks) (len : length tasks ≡ 16)
   true_ends o k e = ap (λ x. ends_at x k) e ∙ eq-eqb k k refl
 
   -- a frame that the test finds is reached
-  pub test_reached : (t : Tables) (k i : ℕ) → is_index_reached t k i tasks ≡ true → Reached tasks t k
+  pub test_reached : (t : Tables) (k i : ℕ) → is_frame_reached t k i tasks ≡ true → Reached tasks t k
   unfolding picture table
   test_reached t k i h =
       let x = any_among (λ e. covers_index i e && ends_at (walk_end t e.sharing i) k) (flat_map table_of tasks) (sym (reached_any t k i tasks) ∙ h) in
@@ -151,7 +151,7 @@ module _ (tasks : List Task) (ok : TasksSound tasks) (len : length tasks ≡ 16)
       }
 
   -- and the test finds it at the cell's index
-  pub reached_test : (t : Tables) (k r i : ℕ) → Living (tables_of tasks) r i → walk_end t r i ≡ Some (Frame k) → is_index_reached t k i tasks ≡ true
+  pub reached_test : (t : Tables) (k r i : ℕ) → Living (tables_of tasks) r i → walk_end t r i ≡ Some (Frame k) → is_frame_reached t k i tasks ≡ true
   reached_test t k r i l e =
       let x = entry_of r i l in
       let has : covers_index i x.0 ≡ true =

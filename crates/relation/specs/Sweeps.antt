@@ -32,9 +32,9 @@ is_reaching t k i [] = false
 is_reaching t k i (e ∷ es) = (covers_index i e && ends_at (walk_end t e.sharing i) k) || is_reaching t k i es
 
 -- an entry of one of the tasks does
-abbrev pub is_index_reached : Tables → ℕ → ℕ → List Task → Bool
-is_index_reached t k i [] = false
-is_index_reached t k i (x ∷ xs) = is_reaching t k i (table_of x) || is_index_reached t k i xs
+abbrev pub is_frame_reached : Tables → ℕ → ℕ → List Task → Bool
+is_frame_reached t k i [] = false
+is_frame_reached t k i (x ∷ xs) = is_reaching t k i (table_of x) || is_frame_reached t k i xs
 
 -- the walk of a living cell ends at frame k
 pub record Reached (tasks : List Task) (t : Tables) (k : ℕ) : Type 0 where
