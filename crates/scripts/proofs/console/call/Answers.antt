@@ -1,15 +1,15 @@
-use Rattle.std.proofs.Common.{refl}
+use Rattle.std.proofs.Common.{refl, rules}
 use Rattle.scripts.proofs.Performing.{performs, passes_over, unperformed}
 use Rattle.scripts.proofs.console.call.Goals as goal
 
 pub returns-in-Create : goal.returns-in-Create
-returns-in-Create c M s h = performs M s _ _ _ _ _ c.in-Create.is refl c.bare.ensures (c.create.ensures.machine M s h)
+returns-in-Create c M s h = performs M s _ _ _ _ _ c.in-Create.is refl c.bare.ensures (search rules)
 
 pub returns-in-Exit : goal.returns-in-Exit
-returns-in-Exit c M s h = performs M s _ _ _ _ _ c.in-Exit.is refl c.bare-in-Exit.ensures (c.exit.ensures.machine M s h)
+returns-in-Exit c M s h = performs M s _ _ _ _ _ c.in-Exit.is refl c.bare-in-Exit.ensures (search rules)
 
 pub returns-in-Usage : goal.returns-in-Usage
-returns-in-Usage c M s h = performs M s _ _ _ _ _ c.in-Usage.is refl refl (c.usage.ensures M s h)
+returns-in-Usage c M s h = performs M s _ _ _ _ _ c.in-Usage.is refl refl (search rules)
 
 pub returns-in_default : goal.returns-in_default
 returns-in_default c M s h =
