@@ -5,7 +5,7 @@ usage: python3 tools/respell.py [FOLDER]      (FOLDER: a checkout, by default th
 
 Words are in snake case, types in camel case, a prime is an apostrophe. names.tsv beside this file has the old and the new
 name, a line each. It is run once, after the kit's own script for an older repository (port.py). Rust's names,
-comments, the labels that Rattle makes in proof files, strings, inputs and outputs stay.
+comments, strings, the labels that Rattle makes in proof files, inputs and outputs stay.
 """
 
 import os
@@ -16,7 +16,8 @@ HERE = os.path.dirname(os.path.abspath(__file__))
 NAME = r"[^\s(){}.;,@\"«»]+"
 # A name with the path before it, as c.f-r.ensures.front-first.
 PATH = re.compile(rf"{NAME}(?:\.{NAME})*")
-# Heads behind which Rattle's own labels stand.
+STRING = re.compile(r'("(?:[^"\\]|\\.)*")')
+# The names that this repository's answers bind, behind which Rattle's own labels stand.
 HEADS = {"goal", "c", "l", "w", "g"}
 
 
@@ -39,7 +40,8 @@ def respelled(text, names, labels):
         label = 1 if labels and parts[0] in HEADS else None
         return ".".join(part if i == label else names.get(part, part) for i, part in enumerate(parts))
 
-    return PATH.sub(one, text)
+    parts = STRING.split(text)
+    return "".join(part if part.startswith('"') else PATH.sub(one, part) for part in parts)
 
 
 def main():

@@ -312,12 +312,12 @@ module _ (N M F : ℕ) where
       at true e k = absurd (none_some None refl k)
       at false e k = (k, λ q. eqb-false v.object o e (same_object k ∙ q))
 
-  module _ (B B' : ℕ → Backing) (W W' : ℕ → Option Owner) (T : ℕ → Option ℕ) (o : ℕ) (inside : o < N) (zero-weight : weight N M B T o ≡ 0) (put : Put B B' o Free) (drops : (s : ℕ) → W' s ≡ dropped o (W s)) (F₀ : Formed N M F B W T) where
+  module _ (B B' : ℕ → Backing) (W W' : ℕ → Option Owner) (T : ℕ → Option ℕ) (o : ℕ) (inside : o < N) (zero_weight : weight N M B T o ≡ 0) (put : Put B B' o Free) (drops : (s : ℕ) → W' s ≡ dropped o (W s)) (F₀ : Formed N M F B W T) where
     freed_next : (a p : ℕ) → (a ≡ o → ⊥) → B a ≡ Shadow p → p ≡ o → ⊥
-    freed_next a p d h e = none_shadow B T F₀.objects F₀.records a o zero-weight (h ∙ ap Shadow e)
+    freed_next a p d h e = none_shadow B T F₀.objects F₀.records a o zero_weight (h ∙ ap Shadow e)
 
     freed_top : (r a : ℕ) → T r ≡ Some a → a ≡ o → ⊥
-    freed_top r a h e = single_name B T F₀.objects F₀.records r o (omega (arith, zero-weight)) (h ∙ ap Some e)
+    freed_top r a h e = single_name B T F₀.objects F₀.records r o (omega (arith, zero_weight)) (h ∙ ap Some e)
 
     freed_live : (a : ℕ) → live (B a) ≡ true → (a ≡ o → ⊥) → live (B' a) ≡ true
     freed_live a l d = ap live (put.elsewhere a d) ∙ l

@@ -9,17 +9,17 @@ use Rattle.chains.specs.Walks.{Chain, root, on}
 use Rattle.chains.specs.Sound.{Settled}
 use Rattle.chains.proofs.Sums.{bit_le, sum_le, sum_same, sum_add, sum_zero, sum_one, sum_swap, sum_change, term_le}
 use Rattle.chains.proofs.Chains.{chain_live, chain_next, chain_same, free_live}
-use Rattle.chains.proofs.Weights.{bit_true, bit_false, true_bit, bit_same, bit_other, names_sum, shadows_sum, is_shadow, shadow_live, one_shadow, shadows_true}
+use Rattle.chains.proofs.Weights.{bit_true, bit_false, true_bit, bit_same, bit_other, names_sum, shadows_sum, is_shadow_row, shadow_live, one_shadow, shadows_true}
 
 -- sums of the weights, once by object and once by reference
-pub weight_sum : (N M : ℕ) (B : ℕ → Backing) (T : ℕ → Option ℕ) → sum_to N (weight N M B T) ≤ 2 * count M (λ r. is_some (T r)) + count N (λ p. is_shadow (B p))
+pub weight_sum : (N M : ℕ) (B : ℕ → Backing) (T : ℕ → Option ℕ) → sum_to N (weight N M B T) ≤ 2 * count M (λ r. is_some (T r)) + count N (λ p. is_shadow_row (B p))
 weight_sum N M B T =
     let a = λ (o : ℕ). count M (λ r. is_naming o (T r)) in
     let b = λ (o : ℕ). count N (λ p. is_shadowing o (B p)) in
     let e : sum_to N (weight N M B T) ≡ sum_to N (λ o. (a o + a o) + b o) = sum_same N _ _ (λ k l. omega arith) in
     omega (arith, e, sum_add N (λ o. a o + a o) b, sum_add N a a, names_sum N M T, shadows_sum N B)
 
-pub shadows_live : (N : ℕ) (B : ℕ → Backing) → count N (λ p. is_shadow (B p)) ≤ count N (λ p. live (B p))
+pub shadows_live : (N : ℕ) (B : ℕ → Backing) → count N (λ p. is_shadow_row (B p)) ≤ count N (λ p. live (B p))
 shadows_live N B = sum_le N _ _ (λ k l. shadow_live (B k))
 
 -- a chain ends at a root
@@ -53,12 +53,12 @@ module _ (N M : ℕ) (B : ℕ → Backing) (T : ℕ → Option ℕ) (few : (o : 
       let one : 1 ≤ sum_to N (λ o. bit (eqb o x)) = omega (arith, term_le N (λ o. bit (eqb o x)) x (live_below x (chain_live c)), bit_same x x refl) in
       let z = chain_root c in
       let zl : live (B z.0) ≡ true = ap live z.2 in
-      let zs : is_shadow (B z.0) ≡ false = ap is_shadow z.2 in
-      let r : sum_to N (λ o. bit (is_shadow (B o)) + bit (eqb o z.0)) ≤ count N (λ o. live (B o)) =
-      sum_le N _ _ (λ k l. elim (cases_eq k z.0) [ inl e ↦ omega (arith, bit_same k z.0 e, ap (λ y. bit (live (B y))) e, bit_true _ zl, ap (λ y. bit (is_shadow (B y))) e, bit_false _ zs) | inr d ↦ omega (arith, bit_other k z.0 d, shadow_live (B k)) ])
+      let zs : is_shadow_row (B z.0) ≡ false = ap is_shadow_row z.2 in
+      let r : sum_to N (λ o. bit (is_shadow_row (B o)) + bit (eqb o z.0)) ≤ count N (λ o. live (B o)) =
+      sum_le N _ _ (λ k l. elim (cases_eq k z.0) [ inl e ↦ omega (arith, bit_same k z.0 e, ap (λ y. bit (live (B y))) e, bit_true _ zl, ap (λ y. bit (is_shadow_row (B y))) e, bit_false _ zs) | inr d ↦ omega (arith, bit_other k z.0 d, shadow_live (B k)) ])
       in
       let two : 1 ≤ sum_to N (λ o. bit (eqb o z.0)) = omega (arith, term_le N (λ o. bit (eqb o z.0)) z.0 (live_below z.0 zl), bit_same z.0 z.0 refl) in
-      omega (arith, q, doubled, one, two, r, weight_sum N M B T, sum_add N f (λ o. bit (eqb o x)), sum_add N (λ o. bit (is_shadow (B o))) (λ o. bit (eqb o z.0)))
+      omega (arith, q, doubled, one, two, r, weight_sum N M B T, sum_add N f (λ o. bit (eqb o x)), sum_add N (λ o. bit (is_shadow_row (B o))) (λ o. bit (eqb o z.0)))
 
 -- which objects a chain of n objects from s on has
 unfoldable pub passes : ℕ → (ℕ → Backing) → ℕ → ℕ → Bool

@@ -53,7 +53,7 @@ module _ (B B' : ℕ → Backing) (o q : ℕ) (shadow : B q ≡ Shadow o) (only 
       (stay : (a s : ℕ) → (a ≡ o → ⊥) → W s ≡ Some (own a i) → W' s ≡ Some (own a i))
       (moves : (s : ℕ) → W s ≡ Some (own o i) → Bare W q i → W' s ≡ Some (own q i))
       (bare : (a : ℕ) → (a ≡ o → ⊥) → (a ≡ q → ⊥) → Bare W a i → Bare W' a i)
-      (bare-both : Bare W q i → Bare W o i → Bare W' q i) where
+      (bare_both : Bare W q i → Bare W o i → Bare W' q i) where
     -- and so does a walk that finds no frame at q
     pub walk_collapses : {a n : ℕ} {e : End} → Walks B W i a e n → ((a ≡ o → ⊥) → (m : ℕ) × Walks B' W' i a e m) × (a ≡ o → Bare W q i → (m : ℕ) × Walks B' W' i q e m)
     walk_collapses {a} (at_frame {s = s} h) = (
@@ -62,7 +62,7 @@ module _ (B B' : ℕ → Backing) (o q : ℕ) (shadow : B q ≡ Shadow o) (only 
     )
     walk_collapses {a} (at_root {g = g} b h) = (
       λ d. elim (cases_eq a q) [ inl e ↦ absurd (root_shadow _ (ap B (sym e) ∙ h) shadow) | inr f ↦ (1, at_root (bare a d f b) (same a d f ∙ h)) ],
-      λ e c. (1, at_root (bare-both c (subst (λ x. Bare W x i) e b)) (taken ∙ ap B (sym e) ∙ h)),
+      λ e c. (1, at_root (bare_both c (subst (λ x. Bare W x i) e b)) (taken ∙ ap B (sym e) ∙ h)),
     )
     walk_collapses {a} {e = z} (below {p = p} b h w) =
         let ih = walk_collapses w in (
@@ -75,5 +75,5 @@ module _ (B B' : ℕ → Backing) (o q : ℕ) (shadow : B q ≡ Shadow o) (only 
           λ e c.
               let k = ap B (sym e) ∙ h in
               let x = ih.0 (past_below p k) in
-              (suc x.0, below (bare-both c (subst (λ y. Bare W y i) e b)) (taken ∙ k) x.1),
+              (suc x.0, below (bare_both c (subst (λ y. Bare W y i) e b)) (taken ∙ k) x.1),
         )

@@ -42,12 +42,12 @@ one_name N (Some p) =
     (λ j k l m a b. sym (eqb-true p j (true_bit _ (omega (arith, a)))) ∙ eqb-true p k (true_bit _ (omega (arith, b))))
 
 -- the row is a shadow
-abbrev pub is_shadow : Backing → Bool
-is_shadow Free = false
-is_shadow (Root g) = false
-is_shadow (Shadow p) = true
+abbrev pub is_shadow_row : Backing → Bool
+is_shadow_row Free = false
+is_shadow_row (Root g) = false
+is_shadow_row (Shadow p) = true
 
-pub one_shadow : (N : ℕ) (b : Backing) → sum_to N (λ o. bit (is_shadowing o b)) ≤ bit (is_shadow b)
+pub one_shadow : (N : ℕ) (b : Backing) → sum_to N (λ o. bit (is_shadowing o b)) ≤ bit (is_shadow_row b)
 one_shadow N Free = omega (arith, sum_zero N (λ o. 0) (λ k l. refl))
 one_shadow N (Root g) = omega (arith, sum_zero N (λ o. 0) (λ k l. refl))
 one_shadow N (Shadow p) =
@@ -59,12 +59,12 @@ names_sum N M T =
     subst (λ x. x ≤ count M (λ r. is_some (T r))) (sym (sum_swap N M (λ o r. bit (is_naming o (T r)))))
     (sum_le M (λ r. sum_to N (λ o. bit (is_naming o (T r)))) (λ r. bit (is_some (T r))) (λ r l. one_name N (T r)))
 
-pub shadows_sum : (N : ℕ) (B : ℕ → Backing) → sum_to N (λ o. count N (λ p. is_shadowing o (B p))) ≤ count N (λ p. is_shadow (B p))
+pub shadows_sum : (N : ℕ) (B : ℕ → Backing) → sum_to N (λ o. count N (λ p. is_shadowing o (B p))) ≤ count N (λ p. is_shadow_row (B p))
 shadows_sum N B =
-    subst (λ x. x ≤ count N (λ p. is_shadow (B p))) (sym (sum_swap N N (λ o p. bit (is_shadowing o (B p)))))
-    (sum_le N (λ p. sum_to N (λ o. bit (is_shadowing o (B p)))) (λ p. bit (is_shadow (B p))) (λ p l. one_shadow N (B p)))
+    subst (λ x. x ≤ count N (λ p. is_shadow_row (B p))) (sym (sum_swap N N (λ o p. bit (is_shadowing o (B p)))))
+    (sum_le N (λ p. sum_to N (λ o. bit (is_shadowing o (B p)))) (λ p. bit (is_shadow_row (B p))) (λ p l. one_shadow N (B p)))
 
-pub shadow_live : (b : Backing) → bit (is_shadow b) ≤ bit (live b)
+pub shadow_live : (b : Backing) → bit (is_shadow_row b) ≤ bit (live b)
 shadow_live Free = omega arith
 shadow_live (Root g) = omega arith
 shadow_live (Shadow p) = omega arith

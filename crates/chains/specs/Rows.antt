@@ -6,7 +6,7 @@ use Rattle.chains.specs.declared.Backing.{Backing}
 use Rattle.chains.specs.declared.Backing.TheVariants.{Free, Root, Shadow}
 use Rattle.chains.specs.declared.Owner.{Owner}
 use Rattle.chains.specs.declared.End.{End}
-use Rattle.chains.specs.declared.End.TheVariants.{Zeros as at-zeros, Page as at-page}
+use Rattle.chains.specs.declared.End.TheVariants.{Zeros as at_zeros, Page as at_page}
 
 -- the row is in use
 abbrev pub live : Backing → Bool
@@ -36,8 +36,8 @@ is_owned_by o i (Some w) = w.object == o && w.index == i
 
 -- where a walk ends that finds no frame
 abbrev pub source : Origin → ℕ → End
-source Zeros i = at-zeros
-source (Page m q) i = at-page m (q + i)
+source Zeros i = at_zeros
+source (Page m q) i = at_page m (q + i)
 
 -- f 0 + .. + f (n - 1)
 unfoldable pub sum_to : ℕ → (ℕ → ℕ) → ℕ

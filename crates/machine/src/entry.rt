@@ -1,7 +1,6 @@
 // Map entries as elements of a range table.
 ghost use Rattle.std.specs.Prelude.{◌≡◌};
 ghost use Rattle.machine.specs.Entries.{entry_shape, entry_laws, protected, inheriting, protected_still, inheriting_still};
-ghost use Rattle.std.proofs.Common.{rules};
 
 use crate::words::{Entry, Inheritance, Protection};
 use ranges::{Change, Element};
@@ -50,7 +49,7 @@ pub struct SetProtection(pub Protection);
 impl Change<Entry> for SetProtection {
     ghost alters = { λ c e. protected c.0 e };
 
-    ghost still = { Prim.search rules };
+    ghost still = { λ c. protected_still c.0 };
 
     fn apply(&self, e: Entry) -> Entry {
         let mut changed = e;
@@ -66,7 +65,7 @@ pub struct SetInheritance(pub Inheritance);
 impl Change<Entry> for SetInheritance {
     ghost alters = { λ c e. inheriting c.0 e };
 
-    ghost still = { Prim.search rules };
+    ghost still = { λ c. inheriting_still c.0 };
 
     fn apply(&self, e: Entry) -> Entry {
         let mut changed = e;

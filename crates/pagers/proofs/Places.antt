@@ -50,8 +50,8 @@ has_facts : (p : ℕ) (e : Extent) → has p e ≡ true → (e.first ≤ p) × (
 has_facts p e h = let both = and_parts _ _ h in (leb-true _ _ both.0, ltb-true _ _ both.1)
 
 overlaps : (p : ℕ) (a b : Extent) → has p a ≡ true → has p b ≡ true → overlap a b ≡ true
-overlaps p a b in-a in_b =
-    let f = has_facts p a in-a in
+overlaps p a b in_a in_b =
+    let f = has_facts p a in_a in
     let g = has_facts p b in_b in
     let below : a.first < b.first + b.pages = omega arith in
     let above : b.first < a.first + a.pages = omega arith in

@@ -181,13 +181,13 @@ module _ {E : Type 0} (S : Shape E) (h : E → E) (A : Altering S h) (f g : ℕ)
   here : (p : ℕ) (e : E) (es : List E) → Proper S e → (end S e ≤ f) ⊎ (f ≤ S.first e) → (end S e ≤ g) ⊎ (g ≤ S.first e) → S.first e ≤ p → p < end S e → said S p (map (change_in S h f g) (e ∷ es)) ≡ changed_says (said S p (e ∷ es)) p
   here p e es ok at_f at_g from below =
       let o = said S p (e ∷ es) in
-      let said-e : o ≡ Some (S.one p e) = said_here S p e es from below in
+      let said_e : o ≡ Some (S.one p e) = said_here S p e es from below in
       let done : said S p (map (change_in S h f g) (e ∷ es)) ≡ Some (S.one p (change_in S h f g e)) = said_here S p (change_in S h f g e) (map (change_in S h f g) es) (omega (arith, first_same (inside S f g e) e)) (omega (arith, end_same (inside S f g e) e)) in
       done ∙ ⊎_elim
-      (λ a. ap (λ x. Some (S.one p x)) (inside_below e (omega (arith, ok.some))) ∙ sym said-e ∙ sym (among_below p o (omega arith)))
+      (λ a. ap (λ x. Some (S.one p x)) (inside_below e (omega (arith, ok.some))) ∙ sym said_e ∙ sym (among_below p o (omega arith)))
       (λ a. ⊎_elim
-      (λ b. ap (λ x. Some (S.one p x)) (inside_yes e a b) ∙ ap Some (A.page_by_page e p) ∙ ap (option_map h) (sym said-e) ∙ sym (among_yes p o (omega arith) (omega arith)))
-      (λ b. ap (λ x. Some (S.one p x)) (inside_above e (omega (arith, ok.some))) ∙ sym said-e ∙ sym (among_above p o (omega arith)))
+      (λ b. ap (λ x. Some (S.one p x)) (inside_yes e a b) ∙ ap Some (A.page_by_page e p) ∙ ap (option_map h) (sym said_e) ∙ sym (among_yes p o (omega arith) (omega arith)))
+      (λ b. ap (λ x. Some (S.one p x)) (inside_above e (omega (arith, ok.some))) ∙ sym said_e ∙ sym (among_above p o (omega arith)))
       at_g)
       at_f
 
@@ -219,16 +219,16 @@ module _ {E : Type 0} (S : Shape E) (h : E → E) (A : Altering S h) (f g : ℕ)
         ∙ map_says 0 _ twice (cut_still S L 0 f g (cut S f t) l once (cut_clear S L 0 f t (rising_facts S 0 t up))) (cut_clear S L 0 g (cut S f t) once) p
         ∙ ap (λ o. changed_says o p) (cut_says S L 0 g (cut S f t) once p ∙ cut_says S L 0 f t (rising_facts S 0 t up) p)
 
-module _ {E : Type 0} (S : Shape E) (L : Laws S) (xs : List E) (len : ℕ) (inside-rows : len ≤ length xs) (up : rising S 0 (take len xs) ≡ true) (f g : ℕ) (l : f < g) (m n : ℕ) (at_f : length (cut S f (take (len - 0) xs)) ≡ length (take (len - 0) xs) + m) (at_g : length (cut S g (take (len - 0) xs)) ≡ length (take (len - 0) xs) + n) where
+module _ {E : Type 0} (S : Shape E) (L : Laws S) (xs : List E) (len : ℕ) (inside_rows : len ≤ length xs) (up : rising S 0 (take len xs) ≡ true) (f g : ℕ) (l : f < g) (m n : ℕ) (at_f : length (cut S f (take (len - 0) xs)) ≡ length (take (len - 0) xs) + m) (at_g : length (cut S g (take (len - 0) xs)) ≡ length (take (len - 0) xs) + n) where
   -- how many rows the two cuts take
   pub both_cuts : length (cut S g (cut S f (take len xs))) ≡ len + m + n
   both_cuts =
       omega (
         arith,
         two_cuts S L 0 f g (take len xs) l (rising_facts S 0 (take len xs) up),
-        cut_count S xs len inside-rows up f m at_f,
-        cut_count S xs len inside-rows up g n at_g,
-        length-take-le len xs inside-rows,
+        cut_count S xs len inside_rows up f m at_f,
+        cut_count S xs len inside_rows up g n at_g,
+        length-take-le len xs inside_rows,
       )
 
   pub change_full : (h : E → E) (f' g' : ℕ) → f ≡ f' → g ≡ g' → length xs - len < m + n → full xs (altered S h f' g' (take len xs)) ≡ true
@@ -237,7 +237,7 @@ module _ {E : Type 0} (S : Shape E) (L : Laws S) (xs : List E) (len : ℕ) (insi
 
   module _ (ys : List E) (half : ℕ) (room : m + n ≤ length xs - len) (long : length ys ≡ length xs) (count : half ≡ length (cut S f (take len xs))) (is : take half ys ≡ cut S f (take len xs)) where
     pub half_within : half ≤ length ys
-    half_within = omega (arith, cut_count S xs len inside-rows up f m at_f)
+    half_within = omega (arith, cut_count S xs len inside_rows up f m at_f)
 
     pub half_rises : rising S 0 (take half ys) ≡ true
     half_rises = cut_rises S L (take len xs) (take half ys) up f is

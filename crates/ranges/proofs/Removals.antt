@@ -93,14 +93,14 @@ module _ {E : Type 0} (S : Shape E) (L : Laws S) where
   trim_rises n r le ok from up (left a) = (ok, from, up)
   trim_rises n r le ok from up (right a) = (ok, from, up)
   trim_rises {f} {g} {e} n r le ok from up (around a b) =
-      let f-in : f < end S e = omega arith in
-      let g-in : S.first e < g = omega arith in (
-        front_proper e f ok a f-in,
-        omega (arith, L.front_first e f a f-in),
+      let f_in : f < end S e = omega arith in
+      let g_in : S.first e < g = omega arith in (
+        front_proper e f ok a f_in,
+        omega (arith, L.front_first e f a f_in),
         (
-          back_proper e g ok g-in b,
-          omega (arith, front_end e f a f-in, L.back_first e g g-in b),
-          rising_lower S _ _ r (omega (arith, back_end e g g-in b)) up,
+          back_proper e g ok g_in b,
+          omega (arith, front_end e f a f_in, L.back_first e g g_in b),
+          rising_lower S _ _ r (omega (arith, back_end e g g_in b)) up,
         ),
       )
   trim_rises {f} {g} {e} n r le ok from up (over_first a b d) =

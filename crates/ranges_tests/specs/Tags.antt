@@ -1,7 +1,7 @@
 -- Tagged pages as elements of a range table.
 use Rattle.std.specs.Prelude.{ℕ, ◌-◌, true, refl}
 use Rattle.std.proofs.Common.{arith}
-use Rattle.ranges.specs.Shape.{Shape, Laws}
+use Rattle.ranges.specs.Shape.{Shape, Laws, Altering}
 use Rattle.ranges_tests.specs.declared.tagged.Retag.{Retag}
 use Rattle.ranges_tests.specs.declared.tagged.Tagged.{Tagged}
 
@@ -38,3 +38,7 @@ tagged_laws = record {
 -- the element with the new tag
 abbrev pub retagged : Retag → Tagged → Tagged
 retagged r e = tagged_of e.first e.pages r.tag
+
+-- a new tag moves no page
+pub retagged_still : (r : Retag) → Altering tagged_shape (retagged r)
+retagged_still r = record { same_first = λ e. refl; same_pages = λ e. refl; same_fits = λ e. refl; page_by_page = λ e q. refl }

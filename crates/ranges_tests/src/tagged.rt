@@ -1,7 +1,6 @@
 // Pages with a tag, and a change of the tag.
 ghost use Rattle.std.specs.Prelude.{◌≡◌};
-ghost use Rattle.ranges_tests.specs.Tags.{tagged_of, tagged_shape, tagged_laws, retagged};
-ghost use Rattle.std.proofs.Common.{rules};
+ghost use Rattle.ranges_tests.specs.Tags.{tagged_of, tagged_shape, tagged_laws, retagged, retagged_still};
 
 use ranges::{Change, Element};
 
@@ -66,7 +65,7 @@ pub struct Retag {
 impl Change<Tagged> for Retag {
     ghost alters = { retagged };
 
-    ghost still = { Prim.search rules };
+    ghost still = { retagged_still };
 
     fn apply(&self, e: Tagged) -> Tagged {
         Tagged {

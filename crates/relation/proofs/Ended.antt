@@ -70,9 +70,9 @@ module _ (F : ℕ) (tasks : List Task) (t : Tables) (memory : List ℕ) (M : Mea
         let top = used_top t r inuse in
         let w = walk_of t sound r top.0 top.1 i in
         let long = length_is t sound r top.0 top.1 i w.1 w.0 w.2 in
-        let few-records = walk_few t sound r top.0 top.1 i w.1 w.0 w.2 in
+        let few_records = walk_few t sound r top.0 top.1 i w.1 w.0 w.2 in
         let all = records_counted tasks t used len few s h.same in
-        omega (arith, long, few-records, all)
+        omega (arith, long, few_records, all)
 
     pub walks_and_sources : WalksAndSources t s
     walks_and_sources = record {

@@ -11,7 +11,7 @@ use Rattle.machine.specs.State.{State, table, untouched, along}
 use Rattle.machine.specs.Step.{with_task, with_record, fresh_entry, uncovered}
 use Rattle.chains.specs.declared.End.TheVariants.{Frame}
 use Rattle.chains.specs.declared.Origin.{Origin}
-use Rattle.chains.specs.declared.Origin.TheVariants.{Zeros as of-zeros, Page as of-page}
+use Rattle.chains.specs.declared.Origin.TheVariants.{Zeros as of_zeros, Page as of_page}
 use Rattle.chains.specs.declared.Owner.{Owner}
 use Rattle.chains.specs.Rows.{source}
 use Rattle.objects.specs.declared.tables.Tables.{Tables}
@@ -48,12 +48,12 @@ untaken S e (y ∷ ys) p h q = go (untaken S e ys p (or_parts (meets S e y) (tak
 -- an untouched cell shows its source
 shows_source : (M : Meaning) (frame : ℕ → List ℕ) (mark : ℕ → ℕ) (g : Origin) (i pages : ℕ) → i < pages → uncovered M pages (source_of g) ≡ false → Shows M frame mark (source g i) (untouched M (along i (source_of g)))
 unfolding untouched along uncovered
-shows_source M frame mark of-zeros i pages l h = (refl, refl, refl)
-shows_source M frame mark (of-page m q) i pages l h = (refl, refl, refl, let c = ltb-false (M.count m) (q + pages) h in omega (arith, c))
+shows_source M frame mark of_zeros i pages l h = (refl, refl, refl)
+shows_source M frame mark (of_page m q) i pages l h = (refl, refl, refl, let c = ltb-false (M.count m) (q + pages) h in omega (arith, c))
 
 source_frameless : (g : Origin) (i k : ℕ) → source g i ≡ Frame k → ⊥
-source_frameless of-zeros i k e = let z : ◌≡◌ {A = ℕ} 0 1 = cc in omega arith
-source_frameless (of-page m q) i k e = let z : ◌≡◌ {A = ℕ} 0 1 = cc in omega arith
+source_frameless of_zeros i k e = let z : ◌≡◌ {A = ℕ} 0 1 = cc in omega arith
+source_frameless (of_page m q) i k e = let z : ◌≡◌ {A = ℕ} 0 1 = cc in omega arith
 
 -- the state with the cells of the new record
 abbrev pub opened : Meaning → State → ℕ → Origin → State
