@@ -1,7 +1,10 @@
 -- One row more of a scan.
-use Rattle.std.proofs.Common.{◌≡◌, ℕ, ◌+◌, ◌<◌, ◌≤◌, true, false, ◌||◌, List, [], ◌∷◌, ◌++◌, length, get_or, take, drop, Some, sym, ap, ◌∙◌, subst, append_assoc, arith}
+use Rattle.std.proofs.Common.{position, unwrap_or, cond, not, nat_lt, None, Bool, suc, refl, ◌≡◌, ℕ, ◌+◌, ◌<◌, ◌≤◌, true, false, ◌||◌, List, [], ◌∷◌, ◌++◌, length, get_or, take, drop, Some, sym, ap, ◌∙◌, subst, append_assoc, arith}
 use Rattle.std.proofs.lemmas.List.{drop_more, take_more, get_or_read, take_all, drop_all}
 use Rattle.std.proofs.lemmas.Bool.{cond-true, cond-false, lt-ltb, le-ltb, or_left}
+use Rattle.std.proofs.lemmas.Bool.{ltb-false}
+use Rattle.std.proofs.lemmas.List.Sums.{prefix_len-le-length}
+use Rattle.std.specs.List.{position_or_len}
 use Rattle.ranges.specs.Shape.{Shape, end, holds, proper}
 use Rattle.ranges.specs.Tables.{rising, said, taken, meets, inserted}
 use Rattle.ranges.specs.Places.{Around, reach}
@@ -61,3 +64,28 @@ inserted_last e xs i h = ap (λ t. t ++ e ∷ drop i xs) (take_all i xs h) ∙ a
 pub inserted_end : {E : Type 0} (S : Shape E) (e : E) (xs : List E) (i : ℕ) → length xs ≤ i → take i xs ++ inserted S e (drop i xs) ≡ take (length xs) xs ++ e ∷ drop (length xs) xs
 inserted_end S e xs i h =
     ap (λ t. take i xs ++ inserted S e t) (drop_all i xs h) ∙ ap (λ t. t ++ e ∷ []) (take_all i xs h) ∙ sym (inserted_last e xs (length xs) (omega arith))
+
+-- the first place that passes, or else the end
+place_is : {X : Type 0} (p : X → Bool) (xs : List X) → unwrap_or (position p xs) (length xs) ≡ position_or_len p xs
+place_is p xs = known (nat_lt (position_or_len p xs) (length xs)) refl
+  where
+    known : (b : Bool) → nat_lt (position_or_len p xs) (length xs) ≡ b → unwrap_or (cond b (Some (position_or_len p xs)) None) (length xs) ≡ position_or_len p xs
+    known true h = refl
+    known false h = omega (arith, ltb-false _ _ h, prefix_len-le-length (λ x. not (p x)) xs)
+
+-- an element belongs before the first that begins behind it
+at_place : {E : Type 0} (S : Shape E) (e : E) (ys : List E) → inserted S e ys ≡ take (position_or_len (λ x. nat_lt (S.first e) (S.first x)) ys) ys ++ e ∷ drop (position_or_len (λ x. nat_lt (S.first e) (S.first x)) ys) ys
+at_place S e [] = refl
+at_place S e (y ∷ ys) = step (nat_lt (S.first e) (S.first y)) (at_place S e ys)
+  where
+    n : ℕ
+    n = position_or_len (λ x. nat_lt (S.first e) (S.first x)) ys
+    step : (b : Bool) → inserted S e ys ≡ take n ys ++ e ∷ drop n ys → cond b (e ∷ (y ∷ ys)) (y ∷ inserted S e ys) ≡ take (cond (not b) (1 + n) 0) (y ∷ ys) ++ e ∷ drop (cond (not b) (1 + n) 0) (y ∷ ys)
+    step true more = refl
+    step false more =
+        let one : suc n ≡ 1 + n = omega arith in
+        ap (λ t. y ∷ t) more ∙ ap (λ k. take k (y ∷ ys) ++ e ∷ drop k (y ∷ ys)) one
+
+-- or at the end
+pub inserted_place : {E : Type 0} (S : Shape E) (e : E) (xs : List E) (n : ℕ) → n ≡ unwrap_or (position (λ x. nat_lt (S.first e) (S.first x)) xs) (length xs) → inserted S e xs ≡ take n xs ++ e ∷ drop n xs
+inserted_place S e xs n at = at_place S e xs ∙ ap (λ k. take k xs ++ e ∷ drop k xs) (sym (at ∙ place_is (λ x. nat_lt (S.first e) (S.first x)) xs))

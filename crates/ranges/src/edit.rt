@@ -95,10 +95,7 @@ fn extra<E: Element>(rows: &[E], page: u16) -> usize
     ensures small { result ≤ 1 }
     ensures count { length (cut_at E.Element.shape page rows.now) ≡ length rows.now + result }
 {
-    match around(rows, page, page) {
-        Some(_) => 1,
-        None => 0,
-    }
+    usize::from(around(rows, page, page).is_some())
 }
 
 // Cuts the table before `page`, where there is room for it. How many rows there are then.
@@ -135,8 +132,8 @@ fn alter<E: Element, C: Change<E>>(rows: &mut [E], from: u16, to: u16, by: &C)
     requires { rising E.Element.shape 0 rows.old ≡ true }
     ensures { rows.new ≡ map (λ e. (if inside E.Element.shape from to e then C.Change.alters by.now e else e)) rows.old }
 {
-    for i in 0..rows.len() {
-        rows[i] = changed(rows[i], from, to, by);
+    for row in rows.iter_mut() {
+        *row = changed(*row, from, to, by);
     }
 }
 

@@ -1,5 +1,5 @@
 // Loops that look through a table and change nothing.
-ghost use Rattle.std.specs.Prelude.{◌≡◌, ℕ, ◌+◌, ◌-◌, ◌<◌, ◌≤◌, true, false, List, ◌∷◌, ◌++◌, length, take, drop, MatchOption};
+ghost use Rattle.std.specs.Prelude.{nat_lt, position, ◌≡◌, ℕ, ◌+◌, ◌-◌, ◌<◌, ◌≤◌, true, false, List, ◌∷◌, ◌++◌, length, take, drop, MatchOption};
 ghost use Rattle.ranges.specs.Shape.{Shape, Laws, end, proper};
 ghost use Rattle.ranges.specs.Tables.{rising, said, taken, inserted, covered};
 ghost use Rattle.ranges.specs.Places.{Apart, Around, reach};
@@ -35,17 +35,19 @@ pub fn is_taken<E: Element>(rows: &[E], e: &E) -> bool
     false
 }
 
+// The first row that begins behind `e`.
+fn behind<E: Element>(rows: &[E], e: &E) -> Option<usize>
+    ensures { result ≡ position (λ x. nat_lt (E.Element.shape.first e.now) (E.Element.shape.first x)) rows.now }
+{
+    rows.iter().position(|row| e.first() < row.first())
+}
+
 // Before which row `e` belongs.
 pub fn place<E: Element>(rows: &[E], e: &E) -> usize
     ensures within { result ≤ length rows.now }
     ensures inserted { inserted E.Element.shape e.now rows.now ≡ take result rows.now ++ e.now ∷ drop result rows.now }
 {
-    for (i, row) in rows.iter().enumerate() {
-        if e.first() < row.first() {
-            return i;
-        }
-    }
-    rows.len()
+    behind(rows, e).unwrap_or(rows.len())
 }
 
 // Which row has pages both below `from` and from `to` on.
