@@ -80,6 +80,7 @@ at_place S e (y ∷ ys) = step (nat_lt (S.first e) (S.first y)) (at_place S e ys
   where
     n : ℕ
     n = position_or_len (λ x. nat_lt (S.first e) (S.first x)) ys
+
     step : (b : Bool) → inserted S e ys ≡ take n ys ++ e ∷ drop n ys → cond b (e ∷ (y ∷ ys)) (y ∷ inserted S e ys) ≡ take (cond (not b) (1 + n) 0) (y ∷ ys) ++ e ∷ drop (cond (not b) (1 + n) 0) (y ∷ ys)
     step true more = refl
     step false more =

@@ -5,7 +5,7 @@ ghost use Rattle.ranges.specs.Tables.{rising, said, taken, inserted, covered};
 ghost use Rattle.ranges.specs.Places.{Apart, Around, reach};
 
 use crate::element::Element;
-use crate::range::Range;
+use crate::range::{Range, Span};
 use crate::row::{end_of, has_page, meet};
 
 // What the table says of a page.
@@ -50,13 +50,13 @@ pub fn place<E: Element>(rows: &[E], e: &E) -> usize
     behind(rows, e).unwrap_or(rows.len())
 }
 
-// Which row has pages both below `from` and from `to` on.
-pub fn around<E: Element>(rows: &[E], from: u16, to: u16) -> Option<usize>
+// Which row has pages on both sides of the span.
+pub fn around<E: Element>(rows: &[E], span: Span) -> Option<usize>
     requires { rising E.Element.shape 0 rows.now ≡ true }
-    ensures { MatchOption result (Apart E.Element.shape from to rows.now) (Around E.Element.shape from to rows.now) }
+    ensures { MatchOption result (Apart E.Element.shape span.from span.to rows.now) (Around E.Element.shape span.from span.to rows.now) }
 {
     for (i, row) in rows.iter().enumerate() {
-        if row.first() < from && to < end_of(row) {
+        if row.first() < span.from && span.to < end_of(row) {
             return Some(i);
         }
     }

@@ -6,7 +6,7 @@ use Rattle.ranges.proofs.edit.alter.Goals as goal
 pub changed-requires : goal.changed-requires
 changed-requires g c =
     let S = g.E.Element.shape in
-    let h = change_in S (g.C.Change.alters c.args.by.now) c.args.from c.args.to in
+    let h = change_in S (g.C.Change.alters c.args.by.now) c.args.span.from c.args.span.to in
     let xs = c.args.rows.now in
     let x = get_or c.loop-row.rows c.loop-row.row-index c.row-item.result in
     let read : x ≡ get_or c.loop-row.rows c.loop-row.row-index x = ap (get_or c.loop-row.rows c.loop-row.row-index) c.row-item.is in
@@ -15,7 +15,7 @@ changed-requires g c =
 pub loop-row-preserved : goal.loop-row-preserved
 loop-row-preserved g c =
     let S = g.E.Element.shape in
-    let h = change_in S (g.C.Change.alters c.args.by.now) c.args.from c.args.to in
+    let h = change_in S (g.C.Change.alters c.args.by.now) c.args.span.from c.args.span.to in
     let x = get_or c.loop-row.rows c.loop-row.row-index c.row-item.result in
     let read : x ≡ get_or c.loop-row.rows c.loop-row.row-index x = ap (get_or c.loop-row.rows c.loop-row.row-index) c.row-item.is in
     over_more h c.args.rows.now c.loop-row.rows c.loop-row.row-index c.loop-row-test.true c.loop-row.invariant x c.changed.result read c.changed.ensures
@@ -23,5 +23,5 @@ loop-row-preserved g c =
 pub returns : goal.returns
 returns g c =
     let S = g.E.Element.shape in
-    let h = change_in S (g.C.Change.alters c.args.by.now) c.args.from c.args.to in
+    let h = change_in S (g.C.Change.alters c.args.by.now) c.args.span.from c.args.span.to in
     over_all h c.args.rows.now c.loop-row.rows c.loop-row.row-index c.loop-row-test.false c.loop-row.invariant

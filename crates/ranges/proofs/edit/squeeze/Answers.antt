@@ -12,8 +12,7 @@ trim-requires g c =
     let read = squeezing_read S c.loop-i.invariant x c.index-rows-i.is in
     record {
       proper = proper_read S c.args.rows.now c.loop-i.i x c.loop-i-test.true read 0 c.requires.rising;
-      ordered = c.requires.ordered;
-      apart = subst (λ y. S.first y < c.args.from → c.args.to < end S y → ⊥) (sym read) (c.requires.apart c.loop-i.i x c.loop-i-test.true);
+      apart = subst (λ y. S.first y < c.args.span.from → c.args.span.to < end S y → ⊥) (sym read) (c.requires.apart c.loop-i.i x c.loop-i-test.true);
     }
 
 pub loop-i-init : goal.loop-i-init
