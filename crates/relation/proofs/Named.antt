@@ -13,10 +13,9 @@ use Rattle.chains.specs.declared.End.{End}
 use Rattle.chains.specs.declared.End.TheVariants.{Frame, Zeros, Page}
 use Rattle.objects.specs.declared.tables.Tables.{Tables}
 use Rattle.objects.specs.View.{walk_end}
-use Rattle.tasks.specs.declared.task.Task.{Task}
-use Rattle.tasks.specs.Tables.{names}
+use Rattle.tasks.specs.Tables.{Place, names}
 use Rattle.relation.specs.Living.{Living}
-use Rattle.relation.specs.Stands.{place_of, table_of, task_at, tables_of, is_record_named, TasksSound}
+use Rattle.relation.specs.Stands.{place_of, table_of, task_at, tables_of, is_record_named}
 use Rattle.relation.specs.Sweeps.{ends_at, covers_index, is_reaching, is_frame_reached, Reached}
 use Rattle.relation.specs.Orderly.{Orderly}
 use Rattle.relation.proofs.Lists.{Among, among_joined, among_part}
@@ -24,10 +23,10 @@ use Rattle.relation.proofs.Cells.{entry_lives, lives_entry, has_number}
 use Rattle.relation.proofs.Rows.{SameTasks, orderly, all_rows}
 
 -- a state with the tasks of the rows, and nothing in its cells
-unfoldable pub picture : List Task → State
+unfoldable pub picture : List Place → State
 picture tasks = record { frames = 0; tasks = λ n. task_at tasks (place_of n); cells = λ r i. record { content = bytes []; source = zeros; mark = None }; writes = 0 }
 
-pub picture_same : (tasks : List Task) → SameTasks tasks (picture tasks)
+pub picture_same : (tasks : List Place) → SameTasks tasks (picture tasks)
 unfolding picture
 picture_same tasks n = refl
 
@@ -68,11 +67,11 @@ any_append p (x ∷ xs) ys = ap (λ b. p x || b) (any_append p xs ys) ∙ sym (o
     or_assoc false b c = refl
 
 -- the tests over all tasks are tests over all entries
-pub named_any : (r : ℕ) (tasks : List Task) → is_record_named r tasks ≡ any (λ e. eqb e.sharing r) (flat_map table_of tasks)
+pub named_any : (r : ℕ) (tasks : List Place) → is_record_named r tasks ≡ any (λ e. eqb e.sharing r) (flat_map table_of tasks)
 named_any r [] = refl
 named_any r (x ∷ xs) = rw (names_any r (table_of x), named_any r xs) (sym (any_append (λ e. eqb e.sharing r) (table_of x) (flat_map table_of xs)))
 
-pub reached_any : (t : Tables) (k i : ℕ) (tasks : List Task) → is_frame_reached t k i tasks ≡ any (λ e. covers_index i e && ends_at (walk_end t e.sharing i) k) (flat_map table_of tasks)
+pub reached_any : (t : Tables) (k i : ℕ) (tasks : List Place) → is_frame_reached t k i tasks ≡ any (λ e. covers_index i e && ends_at (walk_end t e.sharing i) k) (flat_map table_of tasks)
 reached_any t k i [] = refl
 reached_any t k i (x ∷ xs) = rw (reaches_any t k i (table_of x), reached_any t k i xs) (sym (any_append (λ e. covers_index i e && ends_at (walk_end t e.sharing i) k) (table_of x) (flat_map table_of xs)))
 
@@ -90,9 +89,9 @@ pub some_pages : (e : Entry) → proper entry_shape e ≡ true → 0 < e.pages
 some_pages e h =
     ltb-true 0 e.pages (and_parts (ltb 0 e.pages) (leb (e.first + e.pages) 4096) (and_parts (ltb 0 e.pages && leb (e.first + e.pages) 4096) (leb (e.index + e.pages) 4096) h).0).0
 
-module _ (tasks : List Task) (ok : TasksSound tasks) (len : length tasks ≡ 16) where
+module _ (tasks : List Place) (len : length tasks ≡ 16) where
   order : Orderly (picture tasks)
-  order = orderly tasks (picture tasks) (picture_same tasks) ok
+  order = orderly tasks (picture tasks) (picture_same tasks)
 
   -- an entry of the rows is a task's
   entry_task : (e : Entry) → Among e (flat_map table_of tasks) → (n : ℕ) × Among n numbers × Among e (table (picture tasks) n)

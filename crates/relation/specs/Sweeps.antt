@@ -5,7 +5,7 @@ use Rattle.chains.specs.declared.End.{End}
 use Rattle.chains.specs.declared.End.TheVariants.{Frame, Zeros, Page}
 use Rattle.objects.specs.declared.tables.Tables.{Tables}
 use Rattle.objects.specs.View.{in_use, is_held, walk_end}
-use Rattle.tasks.specs.declared.task.Task.{Task}
+use Rattle.tasks.specs.Tables.{Place}
 use Rattle.relation.specs.Living.{Living}
 use Rattle.relation.specs.Stands.{table_of, tables_of}
 
@@ -32,19 +32,19 @@ is_reaching t k i [] = false
 is_reaching t k i (e ∷ es) = (covers_index i e && ends_at (walk_end t e.sharing i) k) || is_reaching t k i es
 
 -- an entry of one of the tasks does
-abbrev pub is_frame_reached : Tables → ℕ → ℕ → List Task → Bool
+abbrev pub is_frame_reached : Tables → ℕ → ℕ → List Place → Bool
 is_frame_reached t k i [] = false
 is_frame_reached t k i (x ∷ xs) = is_reaching t k i (table_of x) || is_frame_reached t k i xs
 
 -- the walk of a living cell ends at frame k
-pub record Reached (tasks : List Task) (t : Tables) (k : ℕ) : Type 0 where
+pub record Reached (tasks : List Place) (t : Tables) (k : ℕ) : Type 0 where
   pub sharing : ℕ
   pub index : ℕ
   pub lives : Living (tables_of tasks) sharing index
   pub ends : walk_end t sharing index ≡ Some (Frame k)
 
 -- frames that no living cell's walk reaches are freed: no living cell's walk changes, and every held frame is reached
-pub record Cleared (tasks : List Task) (t t' : Tables) : Type 0 where
+pub record Cleared (tasks : List Place) (t t' : Tables) : Type 0 where
   pub uses : (r : ℕ) → in_use t' r ≡ in_use t r
   pub walks : (r i : ℕ) → Living (tables_of tasks) r i → walk_end t' r i ≡ walk_end t r i
   pub frees : (k : ℕ) → is_held t' k ≡ true → is_held t k ≡ true

@@ -15,8 +15,12 @@ Task = Table Entry 16 ghosts
 abbrev pub entries : Task → List Entry
 entries t = held t
 
--- the entries of the task that lives at a place, if one does
-abbrev pub shown : Option Task → Option (List Entry)
+-- where a task lives, or none does
+abbrev pub Place : Type 0
+Place = Option Task
+
+-- the entries of the task at a place, if one lives there
+abbrev pub shown : Place → Option (List Entry)
 shown place = option_map entries place
 
 -- an entry is on the record
