@@ -16,7 +16,7 @@ use Rattle.relation.specs.Stands.{table_of, is_record_named, RecordsNamed, Frame
 use Rattle.relation.specs.Sweeps.{Swept, Cleared}
 use Rattle.relation.proofs.Cells.{said_among, among_said}
 use Rattle.relation.proofs.Rows.{table_rises}
-use Rattle.relation.proofs.Named.{any_among, among_any, names_any, rising_proper, some_pages}
+use Rattle.relation.proofs.Named.{any_among, among_any, rising_proper, some_pages}
 
 -- two tests that imply each other are one
 pub both_imply : (a b : Bool) → (a ≡ true → b ≡ true) → (b ≡ true → a ≡ true) → a ≡ b
@@ -64,7 +64,7 @@ holds_first e l = and_from _ _ (le-leb e.first e.first (omega arith)) (lt-ltb e.
 
 pub names_cell : (r : ℕ) (es : List Entry) → rising entry_shape 0 es ≡ true → names r es ≡ true → (p : ℕ) × (i : ℕ) × Names es p r i
 names_cell r es up h =
-    let x = any_among (λ e. eqb e.sharing r) es (sym (names_any r es) ∙ h) in
+    let x = any_among (λ e. eqb e.sharing r) es (h) in
     let e = x.0 in (
       e.first,
       (part e.first 1 e).index,
@@ -79,7 +79,7 @@ names_cell r es up h =
 pub cell_names : (r : ℕ) (es : List Entry) (p i : ℕ) → Names es p r i → names r es ≡ true
 cell_names r es p i h =
     let x = said_among entry_shape p es h.entry h.says in
-    names_any r es ∙ among_any (λ e. eqb e.sharing r) x.0 es x.1 (eq-eqb x.0.sharing r (ap (λ (y : Entry). y.sharing) (sym x.3) ∙ h.sharing))
+    among_any (λ e. eqb e.sharing r) x.0 es x.1 (eq-eqb x.0.sharing r (ap (λ (y : Entry). y.sharing) (sym x.3) ∙ h.sharing))
 
 within_names : (r : ℕ) (es es' : List Entry) → rising entry_shape 0 es ≡ true → WithinCells es es' → names r es ≡ true → names r es' ≡ true
 within_names r es es' up within h = let x = names_cell r es up h in cell_names r es' x.0 x.1 (within x.0 r x.1 x.2)

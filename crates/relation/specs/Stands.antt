@@ -1,5 +1,6 @@
 -- How the engine's tables stand for a state of the copying machine.
-use Rattle.std.specs.Prelude.{◌≡◌, ℕ, ◌-◌, ◌*◌, ◌≤◌, Bool, false, cond, ◌&&◌, ◌||◌, List, [], ◌∷◌, take, drop, Some, None, Option, nat_le, slice_index_or}
+use Rattle.std.specs.Prelude.{◌≡◌, ℕ, ◌-◌, ◌*◌, ◌≤◌, Bool, false, cond, ◌&&◌, List, [], take, drop, Some, None, Option, nat_le, slice_index_or}
+use Rattle.std.specs.List.{list_any}
 use Rattle.std.specs.Option.{unwrap_or}
 use Rattle.pagers.specs.Meaning.{Meaning}
 use Rattle.machine.specs.declared.words.Entry.{Entry}
@@ -29,8 +30,7 @@ tables_of tasks n = unwrap_or (task_at tasks (place_of n)) []
 
 -- an entry of a living task is on the record
 abbrev pub is_record_named : ℕ → List Place → Bool
-is_record_named r [] = false
-is_record_named r (x ∷ xs) = names r (table_of x) || is_record_named r xs
+is_record_named r tasks = list_any (λ x. names r (table_of x)) tasks
 
 -- a record is in use exactly if an entry of a living task names it
 abbrev pub RecordsNamed : List Place → Tables → Type 0

@@ -1,6 +1,6 @@
 use Rattle.std.proofs.Common.{◌≡◌, get_or, ap}
 use Rattle.ranges.proofs.Scans.{proper_read}
-use Rattle.ranges.proofs.Changes.{change_in, over_read, over_more, over_all}
+use Rattle.ranges.proofs.Changes.{change_in, over_read, over_more}
 use Rattle.ranges.proofs.edit.alter.Goals as goal
 
 pub changed-requires : goal.changed-requires
@@ -19,9 +19,3 @@ loop-row-preserved g c =
     let x = get_or c.loop-row.rows c.loop-row.row-index c.row-item.result in
     let read : x ≡ get_or c.loop-row.rows c.loop-row.row-index x = ap (get_or c.loop-row.rows c.loop-row.row-index) c.row-item.is in
     over_more h c.args.rows.now c.loop-row.rows c.loop-row.row-index c.loop-row-test.true c.loop-row.invariant x c.changed.result read c.changed.ensures
-
-pub returns : goal.returns
-returns g c =
-    let S = g.E.Element.shape in
-    let h = change_in S (g.C.Change.alters c.args.by.now) c.args.span.from c.args.span.to in
-    over_all h c.args.rows.now c.loop-row.rows c.loop-row.row-index c.loop-row-test.false c.loop-row.invariant
