@@ -148,6 +148,3 @@ module _ {E : Type 0} (S : Shape E) where
 
     pub squeezing_all : length xs ≤ i → take k ys ≡ removed S f g xs
     squeezing_all h = q.front ∙ ap (removed S f g) (take_all i xs h)
-
-  pub squeezing_start : (f g : ℕ) (xs : List E) → Squeezing f g xs xs 0 0
-  squeezing_start f g xs = record { front = refl; rest = refl; behind = omega arith; within = omega arith; long = refl }
