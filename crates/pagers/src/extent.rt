@@ -4,7 +4,7 @@ ghost use Rattle.pagers.specs.Extents.{extent_shape, extent_laws};
 use ranges::Element;
 
 // Pages in a row whose bytes lie in a file from a position on, 256 a page.
-#[derive(Clone, Copy)]
+#[derive(Clone, Copy, PartialEq, Eq, Debug)]
 pub struct Extent {
     pub first: u16,
     pub pages: u16,
@@ -26,9 +26,8 @@ impl Element for Extent {
 
     fn front(&self, page: u16) -> Extent {
         Extent {
-            first: self.first,
             pages: page - self.first,
-            position: self.position,
+            ..*self
         }
     }
 

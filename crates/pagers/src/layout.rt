@@ -20,12 +20,10 @@ pub struct Layout {
 
 impl Layout {
     // Where the page begins in the data: None if it is in no extent.
+    #[tactic(auto, using(crate::proofs::Places::place_said))]
     pub(crate) fn place(&self, page: u16) -> Option<u64>
         ensures { result ≡ place page (take self.now.used self.now.rows) }
     {
-        match find(&self.rows[0..self.used], page) {
-            Some(extent) => Some(extent.position),
-            None => None,
-        }
+        find(&self.rows[0..self.used], page).map(|extent| extent.position)
     }
 }

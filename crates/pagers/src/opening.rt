@@ -12,7 +12,7 @@ use crate::reading;
 use ranges::insert;
 
 // The file is no image.
-#[derive(Clone, Copy)]
+#[derive(Clone, Copy, PartialEq, Eq, Debug)]
 pub struct BadImage;
 
 // Whether the page count, the number of extents and the table's length are as they must be.

@@ -9,7 +9,7 @@ pub fn short(file: &[u8], at: usize) -> u16
     requires { at + 2 ≤ length file.now }
     ensures { result ≡ short_at file.now at }
 {
-    256 * file[at] as u16 + file[at + 1] as u16
+    u16::from_be_bytes([file[at], file[at + 1]])
 }
 
 // The number in four bytes, high byte first.
@@ -18,7 +18,8 @@ pub fn long(file: &[u8], at: usize) -> u64
     ensures is { result ≡ long_at file.now at }
     ensures small { result < 2 ^ 32 }
 {
-    65536 * short(file, at) as u64 + short(file, at + 2) as u64
+    let bytes = [file[at], file[at + 1], file[at + 2], file[at + 3]];
+    u64::from(u32::from_be_bytes(bytes))
 }
 
 // The extent with number `i` of the table.
