@@ -7,3 +7,4 @@ pub mod Inserts
 pub mod Divides
 pub mod Edits
 pub mod Changes
+pub mod Tables

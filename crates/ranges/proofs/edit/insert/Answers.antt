@@ -3,8 +3,8 @@ use Rattle.std.proofs.lemmas.Bool.{or_left, or_right, or_from}
 use Rattle.ranges.specs.Tables.{taken, inserted}
 use Rattle.ranges.proofs.Facts.{used}
 use Rattle.ranges.proofs.Inserts.{insert_says, insert_rises, insert_full, insert_fits, insert_count, insert_is}
-use Rattle.ranges.proofs.table.insert.Goals as goal
-use Rattle.ranges.proofs.table.insert.Goals.{then-len-rows-via-then-len-rows, then-len-rows-via-else-len-rows+then-is_taken}
+use Rattle.ranges.proofs.edit.insert.Goals as goal
+use Rattle.ranges.proofs.edit.insert.Goals.{then-len-rows-via-then-len-rows, then-len-rows-via-else-len-rows+then-is_taken}
 
 pub returns-then-len-rows : goal.returns-then-len-rows
 returns-then-len-rows g c =

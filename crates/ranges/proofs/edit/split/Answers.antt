@@ -2,7 +2,7 @@ use Rattle.std.proofs.Common.{◌≡◌, ◌+◌, length, take, sym, ap, ◌∙�
 use Rattle.std.proofs.lemmas.List.{length-take-le}
 use Rattle.ranges.specs.Tables.{cut}
 use Rattle.ranges.proofs.Edits.{around_more, around_used, cut_uncut}
-use Rattle.ranges.proofs.table.split.Goals as goal
+use Rattle.ranges.proofs.edit.split.Goals as goal
 
 pub returns-in_default : goal.returns-in_default
 returns-in_default g c =

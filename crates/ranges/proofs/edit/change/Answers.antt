@@ -5,7 +5,7 @@ use Rattle.ranges.specs.Tables.{altered}
 use Rattle.ranges.proofs.Facts.{used}
 use Rattle.ranges.proofs.Edits.{count_is, fits_rows}
 use Rattle.ranges.proofs.Changes.{change_full, half_within, half_rises, half_room, all_within, all_rises, altered_is, alter_says, alter_rises}
-use Rattle.ranges.proofs.table.change.Goals as goal
+use Rattle.ranges.proofs.edit.change.Goals as goal
 
 pub returns-then-rows-len : goal.returns-then-rows-len
 returns-then-rows-len g c =

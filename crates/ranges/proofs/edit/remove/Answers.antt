@@ -4,7 +4,7 @@ use Rattle.std.proofs.lemmas.List.{length-take-le, length-append}
 use Rattle.ranges.specs.Tables.{removed}
 use Rattle.ranges.proofs.Facts.{used}
 use Rattle.ranges.proofs.Edits.{count_is, fits_rows, same_removed, squeezed_is, around_full, remove_says, remove_rises}
-use Rattle.ranges.proofs.table.remove.Goals as goal
+use Rattle.ranges.proofs.edit.remove.Goals as goal
 
 pub returns-in_default : goal.returns-in_default
 returns-in_default g c =

@@ -2,8 +2,8 @@ use Rattle.std.proofs.Common.{◌<◌, sym, subst, arith}
 use Rattle.ranges.specs.Shape.{end}
 use Rattle.ranges.proofs.Scans.{proper_read}
 use Rattle.ranges.proofs.Divides.{squeezing_start, squeezing_read, squeezing_none, squeezing_some, squeezing_all}
-use Rattle.ranges.proofs.table.squeeze.Goals as goal
-use Rattle.ranges.proofs.table.squeeze.Goals.{in-Some, in_default}
+use Rattle.ranges.proofs.edit.squeeze.Goals as goal
+use Rattle.ranges.proofs.edit.squeeze.Goals.{in-Some, in_default}
 
 pub trim-requires : goal.trim-requires
 trim-requires g c =

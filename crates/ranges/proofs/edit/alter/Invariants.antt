@@ -1,6 +1,6 @@
 use Rattle.std.proofs.Common.{◌≡◌, ◌++◌, map, take, drop}
 use Rattle.ranges.proofs.Changes.{change_in}
-use Rattle.ranges.proofs.table.alter.Given as goal
+use Rattle.ranges.proofs.edit.alter.Given as goal
 
 -- the rows so far are changed
 abbrev pub invariant-loop-i : goal.invariant-loop-i

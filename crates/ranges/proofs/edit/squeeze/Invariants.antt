@@ -1,5 +1,5 @@
 use Rattle.ranges.proofs.Divides.{Squeezing}
-use Rattle.ranges.proofs.table.squeeze.Given as goal
+use Rattle.ranges.proofs.edit.squeeze.Given as goal
 
 abbrev pub invariant-loop-i : goal.invariant-loop-i
 invariant-loop-i g l = Squeezing g.E.Element.shape l.from l.to l.initial.rows l.rows l.count l.i

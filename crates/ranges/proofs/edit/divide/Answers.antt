@@ -1,6 +1,6 @@
 use Rattle.std.proofs.Common.{arith}
 use Rattle.ranges.proofs.Divides.{row_around, divide_is}
-use Rattle.ranges.proofs.table.divide.Goals as goal
+use Rattle.ranges.proofs.edit.divide.Goals as goal
 
 pub front-requires : goal.front-requires
 front-requires g c =

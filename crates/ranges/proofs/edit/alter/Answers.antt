@@ -1,6 +1,6 @@
 use Rattle.ranges.proofs.Scans.{proper_read}
 use Rattle.ranges.proofs.Changes.{change_in, over_read, over_more, over_all}
-use Rattle.ranges.proofs.table.alter.Goals as goal
+use Rattle.ranges.proofs.edit.alter.Goals as goal
 
 pub changed-requires : goal.changed-requires
 changed-requires g c =

@@ -1,6 +1,6 @@
 use Rattle.std.proofs.Common.{length, ap, ◌∙◌, arith}
 use Rattle.ranges.proofs.Divides.{around_length, cut_same}
-use Rattle.ranges.proofs.table.extra.Goals as goal
+use Rattle.ranges.proofs.edit.extra.Goals as goal
 
 pub returns-in-Some : goal.returns-in-Some
 returns-in-Some g c = record {

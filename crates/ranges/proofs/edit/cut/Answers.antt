@@ -1,6 +1,6 @@
 use Rattle.std.proofs.Common.{◌≤◌, length, take, arith}
 use Rattle.ranges.proofs.Edits.{cut_count, fits_rows, cut_keeps, cut_rises}
-use Rattle.ranges.proofs.table.cut.Goals as goal
+use Rattle.ranges.proofs.edit.cut.Goals as goal
 
 pub returns : goal.returns
 returns g c =

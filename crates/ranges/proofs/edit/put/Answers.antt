@@ -1,6 +1,6 @@
 use Rattle.std.proofs.Common.{refl}
 use Rattle.ranges.proofs.Inserts.{put_is}
-use Rattle.ranges.proofs.table.put.Goals as goal
+use Rattle.ranges.proofs.edit.put.Goals as goal
 
 pub returns : goal.returns
 returns g c =
