@@ -105,6 +105,3 @@ pub moved_sound : (n : ℕ) (e : Extent) (old new es : List Extent) → (within 
 moved_sound n e old new es ok is =
     ap (λ b. b && sound n (e ∷ old) es) ok
     ∙ sound_same n (e ∷ old) new es (λ x. sym (ap (crosses x) is ∙ crosses_inserted x e old))
-
-pub refused_sound : (n : ℕ) (e : Extent) (old es : List Extent) → (within n e && not (crosses e old)) ≡ false → sound n old (e ∷ es) ≡ false
-refused_sound n e old es bad = ap (λ b. b && sound n (e ∷ old) es) bad

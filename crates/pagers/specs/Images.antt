@@ -25,6 +25,10 @@ extent_count file = slice_index file 2
 abbrev pub extent_at : List ℕ → ℕ → Extent
 extent_at file i = extent (short_at file (3 + 8 * i)) (short_at file (5 + 8 * i)) (long_at file (7 + 8 * i))
 
+-- an extent's eight bytes by themselves
+abbrev pub extent_in : List ℕ → Extent
+extent_in row = extent (short_at row 0) (short_at row 2) (long_at row 4)
+
 -- the n extents from number i on
 abbrev pub extents_from : List ℕ → ℕ → ℕ → List Extent
 extents_from file i zero = []

@@ -4,7 +4,7 @@ ghost use Rattle.pagers.specs.Extents.{extent_shape, extent_laws};
 use ranges::Element;
 
 // Pages in a row whose bytes lie in a file from a position on, 256 a page.
-#[derive(Clone, Copy, PartialEq, Eq, Debug)]
+#[derive(Clone, Copy, PartialEq, Eq, Default, Debug)]
 pub struct Extent {
     pub first: u16,
     pub pages: u16,

@@ -3,6 +3,7 @@ ghost use Rattle.std.specs.Prelude.{◌≡◌, ℕ, ◌+◌, ◌<◌, ◌≤◌,
 ghost use Rattle.pagers.specs.Bounds.{laid_bounded};
 ghost use Rattle.pagers.specs.Images.{body_from, image_good, image_meaning, zeros};
 ghost use Rattle.pagers.specs.Layouts.{over};
+ghost use Rattle.ranges.specs.Held.{held};
 
 use crate::PagerFault;
 use crate::layout::Layout;
@@ -39,9 +40,9 @@ impl<'a> Image<'a> {
 
     // The image of a file with the layout that was read from it.
     pub fn new(layout: Layout, file: &'a [u8]) -> Image<'a>
-        ensures { over result.layout result.body.now ≡ over layout (body_from layout.used file.now) }
+        ensures { over result.layout result.body.now ≡ over layout (body_from (length (held layout.extents)) file.now) }
     {
-        let body = data_of(file, layout.used);
+        let body = data_of(file, layout.extents.len());
         Image { layout, body }
     }
 }
@@ -56,7 +57,7 @@ fn bytes_at(body: &[u8], position: u64) -> Option<[u8; 256]>
 impl<'a> Pager for Image<'a> {
     ghost meaning = { λ i. over i.layout i.body.now };
 
-    ghost bounded = { λ i. laid_bounded i.layout.pages (take i.layout.used i.layout.rows) i.body.now i.layout.most i.fits };
+    ghost bounded = { λ i. laid_bounded i.layout.pages (held i.layout.extents) i.body.now i.layout.most i.fits };
 
     fn count(&mut self, object: u16) -> u16 {
         if object == 0 { self.layout.pages } else { 0 }
