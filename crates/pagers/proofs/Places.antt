@@ -12,10 +12,10 @@ abbrev pub position : Extent → ℕ
 position e = e.position
 
 -- a page's place is where its extent of one page lies
-pub place_said : (p : ℕ) (es : List Extent) → option_map position (said extent_shape p es) ≡ place p es
+pub place_said : (p : ℕ) (es : List Extent) → place p es ≡ option_map position (said extent_shape p es)
 place_said p [] = refl
 place_said p (e ∷ es) =
-    elim (has p e) as (λ b. option_map position (cond b (Some (extent_shape.one p e)) (said extent_shape p es)) ≡ cond b (Some (position_of p e)) (place p es)) [
+    elim (has p e) as (λ b. cond b (Some (position_of p e)) (place p es) ≡ option_map position (cond b (Some (extent_shape.one p e)) (said extent_shape p es))) [
       | true ↦ refl
       | false ↦ place_said p es
     ]
@@ -83,7 +83,7 @@ all_places a b e = ap (either a) e ∙ either_none a
 pub moved_place : (p : ℕ) (e : Extent) (old new es : List Extent) → crosses e old ≡ false → Inserts extent_shape e old new → either (place p old) (place p (e ∷ es)) ≡ either (place p new) (place p es)
 moved_place p e old new es free says =
     let is : place p new ≡ cond (has p e) (Some (position_of p e)) (place p old) =
-    sym (place_said p new) ∙ ap (option_map position) (says p) ∙ place_said p (e ∷ old) in
+    place_said p new ∙ ap (option_map position) (says p) ∙ sym (place_said p (e ∷ old)) in
     ⊎_elim
     (λ (here : has p e ≡ true).
     ap (λ a. either a (place p (e ∷ es))) (apart_place p e old here free)

@@ -10,17 +10,11 @@ ghost use Rattle.pagers.specs.Layouts.{over};
 use crate::extent::Extent;
 use crate::layout::Layout;
 use crate::reading;
-use ranges::{Refused, Table};
+use ranges::Table;
 
 // The file is no image.
 #[derive(Clone, Copy, PartialEq, Eq, Debug)]
 pub struct BadImage;
-
-impl From<Refused> for BadImage {
-    fn from(_refused: Refused) -> BadImage {
-        BadImage
-    }
-}
 
 // Whether the extent has a page and does not pass the page count.
 fn is_within(e: &Extent, pages: u16) -> bool
@@ -43,8 +37,7 @@ impl Layout {
         if !is_within(&e, self.pages) {
             return Err(BadImage);
         }
-        self.extents.insert(e)?;
-        Ok(())
+        self.extents.insert(e).map_err(|_refused| BadImage)
     }
 
     // Reads the table of an image file.

@@ -6,7 +6,7 @@ use crate::extent::Extent;
 use crate::opening::BadImage;
 
 // The page count and the bytes of each extent, if these and the number of extents are as they must be.
-pub fn head(file: &[u8]) -> Result<(u16, &[[u8; 8]]), BadImage>
+pub(crate) fn head(file: &[u8]) -> Result<(u16, &[[u8; 8]]), BadImage>
     ensures exactly { is_ok result ≡ head_good file.now }
     ensures pages { IfOk result (λ h. h.0 ≡ page_count file.now) }
     ensures few { IfOk result (λ h. (length h.1.now ≡ extent_count file.now) × (length h.1.now ≤ 32)) }
@@ -24,7 +24,7 @@ pub fn head(file: &[u8]) -> Result<(u16, &[[u8; 8]]), BadImage>
 }
 
 // The extent that eight bytes of the table say.
-pub fn extent(bytes: &[u8; 8]) -> Extent
+pub(crate) fn extent(bytes: &[u8; 8]) -> Extent
     ensures is { result ≡ extent_in bytes.now }
     ensures small { result.position < 2 ^ 32 }
 {
