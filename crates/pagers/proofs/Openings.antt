@@ -8,10 +8,11 @@ use Rattle.std.proofs.lemmas.List.{get_or-take, get_or-drop, drop-drop, drop_mor
 use Rattle.ranges.specs.Tables.{taken, inserted}
 use Rattle.ranges.specs.Says.{Inserts}
 use Rattle.ranges.specs.Held.{overfull}
+use Rattle.ranges.proofs.Inserts.{inserted_length}
 use Rattle.pagers.specs.declared.extent.Extent.{Extent}
 use Rattle.pagers.specs.Extents.{extent_shape}
 use Rattle.pagers.specs.Images.{extent_in, extent_at, extents_from, extents, extent_count, page_count, image_meaning, laid, stored, body_from, crosses, place, within, sound}
-use Rattle.pagers.proofs.Places.{taken_crosses, length_inserted, either, moved_place, moved_sound, all_places}
+use Rattle.pagers.proofs.Places.{taken_crosses, either, moved_place, moved_sound, all_places}
 
 -- a byte of a row is one of the file's
 in_row : (file : List ℕ) (s j k : ℕ) → j < 8 → k ≡ s + j → get_or (take 8 (drop s file)) j 0 ≡ get_or file k 0
@@ -53,7 +54,7 @@ pub record Parted (pages : ℕ) (all left table : List Extent) : Type 0 where
 -- where there is room, the table takes an extent of the image if it crosses none of those in it
 pub may_enter : (pages : ℕ) (e : Extent) (es : List Extent) → length es < 32 → within pages e ≡ true → (not (taken extent_shape e es || overfull 32 (inserted extent_shape e es))) ≡ (within pages e && not (crosses e es))
 may_enter pages e es room ok =
-    let fits : overfull 32 (inserted extent_shape e es) ≡ false = le-ltb _ _ (omega (arith, length_inserted e es)) in
+    let fits : overfull 32 (inserted extent_shape e es) ≡ false = le-ltb _ _ (omega (arith, inserted_length extent_shape e es)) in
     ap not (ap₂ ◌||◌ (taken_crosses e es) fits ∙ or-false (crosses e es)) ∙ sym (ap (λ b. b && not (crosses e es)) ok)
 
 -- the extent of the next row, taken off those that are left

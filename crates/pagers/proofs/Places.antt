@@ -1,9 +1,10 @@
 -- The extents that a table holds, and those that were put into it.
-use Rattle.std.proofs.Common.{◌≡◌, ℕ, suc, ◌+◌, ◌<◌, ◌≤◌, Bool, true, false, cond, not, ◌&&◌, ◌||◌, ltb, List, [], ◌∷◌, length, Some, None, Option, sym, refl, ap, ◌∙◌, inl, inr, ⊎_elim, arith}
-use Rattle.std.proofs.lemmas.Bool.{or_parts, ltb-true, leb-true, lt-ltb, and_parts, and_from, cond-true, cases_Bool, both_ways}
+use Rattle.std.proofs.Common.{◌≡◌, ℕ, ◌+◌, ◌<◌, Bool, true, false, cond, not, ◌&&◌, ◌||◌, ltb, List, [], ◌∷◌, Some, None, Option, sym, refl, ap, ◌∙◌, inl, inr, ⊎_elim, arith}
+use Rattle.std.proofs.lemmas.Bool.{or_parts, lt-ltb, and_from, cond-true, cases_Bool, both_ways}
 use Rattle.std.specs.Option.{option_map}
 use Rattle.ranges.specs.Tables.{said, taken, inserted}
 use Rattle.ranges.specs.Says.{Inserts}
+use Rattle.ranges.proofs.Facts.{holds_facts}
 use Rattle.pagers.specs.declared.extent.Extent.{Extent}
 use Rattle.pagers.specs.Extents.{extent_shape, position_of}
 use Rattle.pagers.specs.Images.{has, overlap, crosses, place, within, sound}
@@ -38,21 +39,10 @@ crosses_inserted x e (y ∷ ys) =
       | false ↦ ap (λ b. overlap x y || b) (crosses_inserted x e ys) ∙ or_swap (overlap x y) (overlap x e) (crosses x ys)
     ]
 
-pub length_inserted : (e : Extent) (es : List Extent) → length (inserted extent_shape e es) ≡ suc (length es)
-length_inserted e [] = refl
-length_inserted e (y ∷ ys) =
-    elim (ltb e.first y.first) as (λ b. length (cond b (e ∷ (y ∷ ys)) (y ∷ inserted extent_shape e ys)) ≡ suc (suc (length ys))) [
-      | true ↦ refl
-      | false ↦ ap suc (length_inserted e ys)
-    ]
-
-has_facts : (p : ℕ) (e : Extent) → has p e ≡ true → (e.first ≤ p) × (p < e.first + e.pages)
-has_facts p e h = let both = and_parts _ _ h in (leb-true _ _ both.0, ltb-true _ _ both.1)
-
 overlaps : (p : ℕ) (a b : Extent) → has p a ≡ true → has p b ≡ true → overlap a b ≡ true
 overlaps p a b in_a in_b =
-    let f = has_facts p a in_a in
-    let g = has_facts p b in_b in
+    let f = holds_facts extent_shape p a in_a in
+    let g = holds_facts extent_shape p b in_b in
     let below : a.first < b.first + b.pages = omega arith in
     let above : b.first < a.first + a.pages = omega arith in
     and_from _ _ (lt-ltb _ _ below) (lt-ltb _ _ above)

@@ -1,6 +1,7 @@
 use Rattle.std.proofs.Common.{length, ap, ◌∙◌, arith}
 use Rattle.ranges.specs.Held.{held}
-use Rattle.pagers.proofs.Places.{length_inserted}
+use Rattle.ranges.proofs.Inserts.{inserted_length}
+use Rattle.pagers.specs.Extents.{extent_shape}
 use Rattle.pagers.proofs.Openings.{parted_more, parted_meaning}
 use Rattle.pagers.proofs.layout.Layout.open.Goals as goal
 
@@ -9,7 +10,7 @@ loop-row-preserved c =
     let put = c.in_ok-enter.ensures.becomes in
     record {
       pages = cc;
-      size = ap length put.1 ∙ length_inserted c.extent.result (held c.loop-row.layout.extents) ∙ omega (arith, c.loop-row.invariant.size);
+      size = ap length put.1 ∙ inserted_length extent_shape c.extent.result (held c.loop-row.layout.extents) ∙ omega (arith, c.loop-row.invariant.size);
       parted = parted_more _ _ _ c.in_ok-pages.table.now c.loop-row.row-index c.extent.result c.loop-row-test.true c.extent.ensures.is c.loop-row.invariant.parted _ _ c.loop-row.invariant.pages put.0 put.1 c.in_ok-enter.ensures.says;
     }
 
