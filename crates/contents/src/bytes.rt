@@ -10,6 +10,7 @@ use objects::Store;
 use pagers::Pager;
 
 // The bytes of a frame.
+#[tactic(auto, using(std::proofs::lemmas::List::take_rest))]
 fn framed(memory: &[u8], slot: u8) -> [u8; 256]
     requires { 256 * slot + 256 ≤ length memory.now }
     ensures { result ≡ frame_bytes memory.now slot }
