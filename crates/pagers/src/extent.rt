@@ -36,7 +36,7 @@ impl Element for Extent {
         Extent {
             first: page,
             pages: self.pages - skipped,
-            position: self.position + 256 * skipped as u64,
+            position: self.position + 256 * u64::from(skipped),
         }
     }
 
@@ -45,7 +45,7 @@ impl Element for Extent {
         Extent {
             first: page,
             pages: 1,
-            position: self.position + 256 * skipped as u64,
+            position: self.position + 256 * u64::from(skipped),
         }
     }
 }

@@ -26,7 +26,7 @@ fn byte_of(page: u16, i: usize) -> u8
     requires within { i < 256 }
     ensures { result ≡ (31 * page + i) % 256 }
 {
-    ((31 * page as usize + i) % 256) as u8
+    ((31 * usize::from(page) + i) % 256) as u8
 }
 
 // Writes the page into the buffer: it is the same for every object.
