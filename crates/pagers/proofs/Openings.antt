@@ -1,6 +1,7 @@
 -- Opening an image, one extent at a time.
 use Rattle.std.proofs.Common.{◌≡◌, ℕ, zero, suc, ◌+◌, ◌-◌, ◌*◌, ◌<◌, ◌≤◌, true, false, cond, not, ◌&&◌, ◌||◌, eqb, List, [], ◌∷◌, length, get_or, take, drop, slice_range, map, Option, sym, refl, ap, ◌∙◌, ap₂, subst, arith}
 use mathlib.Core.Path.{fun_ext}
+use Rattle.std.specs.Option.{option_or}
 use Rattle.std.specs.Simd.{first_chunks}
 use Rattle.std.proofs.Math.Bool.{or-false}
 use Rattle.std.proofs.lemmas.Bool.{not-true, and_parts, le-ltb}
@@ -12,7 +13,7 @@ use Rattle.ranges.proofs.Inserts.{inserted_length}
 use Rattle.pagers.specs.declared.extent.Extent.{Extent}
 use Rattle.pagers.specs.Extents.{extent_shape}
 use Rattle.pagers.specs.Images.{extent_in, extent_at, extents_from, extents, extent_count, page_count, image_meaning, laid, stored, body_from, crosses, place, within, sound}
-use Rattle.pagers.proofs.Places.{taken_crosses, either, moved_place, moved_sound, all_places}
+use Rattle.pagers.proofs.Places.{taken_crosses, moved_place, moved_sound, all_places}
 
 -- a byte of a row is one of the file's
 in_row : (file : List ℕ) (s j k : ℕ) → j < 8 → k ≡ s + j → get_or (take 8 (drop s file)) j 0 ≡ get_or file k 0
@@ -49,7 +50,7 @@ table_says file rest rows table n k behind cut part most is =
 -- what is left of an image's extents, and what is in the table, are all that there is
 pub record Parted (pages : ℕ) (all left table : List Extent) : Type 0 where
   pub checked : sound pages [] all ≡ sound pages table left
-  pub places : (p : ℕ) → place p all ≡ either (place p table) (place p left)
+  pub places : (p : ℕ) → place p all ≡ option_or (place p table) (place p left)
 
 -- where there is room, the table takes an extent of the image if it crosses none of those in it
 pub may_enter : (pages : ℕ) (e : Extent) (es : List Extent) → length es < 32 → within pages e ≡ true → (not (taken extent_shape e es || overfull 32 (inserted extent_shape e es))) ≡ (within pages e && not (crosses e es))

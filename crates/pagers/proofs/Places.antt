@@ -1,7 +1,8 @@
 -- The extents that a table holds, and those that were put into it.
 use Rattle.std.proofs.Common.{◌≡◌, ℕ, ◌+◌, ◌<◌, Bool, true, false, cond, not, ◌&&◌, ◌||◌, ltb, List, [], ◌∷◌, Some, None, Option, sym, refl, ap, ◌∙◌, inl, inr, ⊎_elim, arith}
 use Rattle.std.proofs.lemmas.Bool.{or_parts, lt-ltb, and_from, cond-true, cases_Bool, both_ways}
-use Rattle.std.specs.Option.{option_map}
+use Rattle.std.specs.Option.{option_map, option_or}
+use Rattle.std.proofs.Math.Bool.{or_assoc, or_comm}
 use Rattle.ranges.specs.Tables.{said, taken, inserted}
 use Rattle.ranges.specs.Says.{Inserts}
 use Rattle.ranges.proofs.Facts.{holds_facts}
@@ -26,10 +27,7 @@ taken_crosses e [] = refl
 taken_crosses e (x ∷ xs) = ap (λ b. overlap e x || b) (taken_crosses e xs)
 
 or_swap : (a b c : Bool) → (a || (b || c)) ≡ (b || (a || c))
-or_swap true true c = refl
-or_swap true false c = refl
-or_swap false true c = refl
-or_swap false false c = refl
+or_swap a b c = sym (or_assoc a b c) ∙ ap (λ x. x || c) (or_comm a b) ∙ or_assoc b a c
 
 pub crosses_inserted : (x e : Extent) (es : List Extent) → crosses x (inserted extent_shape e es) ≡ crosses x (e ∷ es)
 crosses_inserted x e [] = refl
@@ -57,31 +55,23 @@ apart_place p e (x ∷ xs) here free =
       | inr no' ↦ ap (λ b. cond b (Some (position_of p x)) (place p xs)) no' ∙ apart_place p e xs here parts.1
     ]
 
--- the first of two
-abbrev pub either : Option ℕ → Option ℕ → Option ℕ
-either None b = b
-either (Some k) b = Some k
-
-either_none : (a : Option ℕ) → either a None ≡ a
-either_none None = refl
-either_none (Some k) = refl
-
-pub all_places : (a b : Option ℕ) → b ≡ None → either a b ≡ a
-all_places a b e = ap (either a) e ∙ either_none a
+pub all_places : (a b : Option ℕ) → b ≡ None → option_or a b ≡ a
+all_places None b e = e
+all_places (Some k) b e = refl
 
 -- an extent taken off the list and put into the table
-pub moved_place : (p : ℕ) (e : Extent) (old new es : List Extent) → crosses e old ≡ false → Inserts extent_shape e old new → either (place p old) (place p (e ∷ es)) ≡ either (place p new) (place p es)
+pub moved_place : (p : ℕ) (e : Extent) (old new es : List Extent) → crosses e old ≡ false → Inserts extent_shape e old new → option_or (place p old) (place p (e ∷ es)) ≡ option_or (place p new) (place p es)
 moved_place p e old new es free says =
     let is : place p new ≡ cond (has p e) (Some (position_of p e)) (place p old) =
     place_said p new ∙ ap (option_map position) (says p) ∙ sym (place_said p (e ∷ old)) in
     ⊎_elim
     (λ (here : has p e ≡ true).
-    ap (λ a. either a (place p (e ∷ es))) (apart_place p e old here free)
+    ap (λ a. option_or a (place p (e ∷ es))) (apart_place p e old here free)
     ∙ cond-true _ _ _ here
-    ∙ sym (ap (λ a. either a (place p es)) (is ∙ cond-true _ _ _ here)))
+    ∙ sym (ap (λ a. option_or a (place p es)) (is ∙ cond-true _ _ _ here)))
     (λ (away : has p e ≡ false).
-    ap (λ b. either (place p old) (cond b (Some (position_of p e)) (place p es))) away
-    ∙ sym (ap (λ a. either a (place p es)) (is ∙ ap (λ b. cond b (Some (position_of p e)) (place p old)) away)))
+    ap (λ b. option_or (place p old) (cond b (Some (position_of p e)) (place p es))) away
+    ∙ sym (ap (λ a. option_or a (place p es)) (is ∙ ap (λ b. cond b (Some (position_of p e)) (place p old)) away)))
     (cases_Bool (has p e))
 
 -- soundness asks of the extents before only which they cross
