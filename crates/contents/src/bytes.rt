@@ -1,5 +1,5 @@
 // The bytes of a cell, in a page of their own.
-ghost use Rattle.std.specs.Prelude.{◌≡◌, ℕ, ◌+◌, ◌*◌, ◌≤◌, true, length, Some, Ok, Err, MatchResult};
+ghost use Rattle.std.specs.Prelude.{◌≡◌, ℕ, ◌+◌, ◌*◌, ◌≤◌, true, length, Some};
 ghost use Rattle.chains.specs.declared.End.{End as EndOf};
 ghost use Rattle.objects.specs.View.{in_use, is_held, walk_end};
 ghost use Rattle.contents.specs.Loads.{frame_bytes, page_number, FetchedPage, Loads};
@@ -7,27 +7,16 @@ ghost use Rattle.contents.specs.Loads.{frame_bytes, page_number, FetchedPage, Lo
 use crate::fault::{ObjectFault, Wanted};
 use chains::End;
 use objects::Store;
-use pagers::{Pager, PagerFault};
+use pagers::Pager;
 
 // The bytes of a frame.
+#[tactic(auto, using(std::proofs::lemmas::List::take_rest))]
 fn framed(memory: &[u8], slot: u8) -> [u8; 256]
     requires { 256 * slot + 256 ≤ length memory.now }
     ensures { result ≡ frame_bytes memory.now slot }
 {
-    let mut page = [0u8; 256];
-    let from = 256 * slot as usize;
-    page.copy_from_slice(&memory[from..from + 256]);
-    page
-}
-
-// Puts the page that was wanted beside a pager's fault.
-fn beside(r: Result<(), PagerFault>, wanted: Wanted) -> Result<(), (PagerFault, Wanted)>
-    ensures { MatchResult result (λ u. r ≡ Ok u) (λ y. (r ≡ Err y.0) × (y.1 ≡ wanted)) }
-{
-    match r {
-        Ok(()) => Ok(()),
-        Err(fault) => Err((fault, wanted)),
-    }
+    let from = 256 * usize::from(slot);
+    *memory[from..].first_chunk().unwrap()
 }
 
 // A page of an object, fetched into a cleared page.
@@ -36,8 +25,9 @@ fn paged<P: Pager>(pager: &mut P, wanted: Wanted) -> Result<[u8; 256], ObjectFau
     ensures page { FetchedPage (P.Pager.meaning pager.old) wanted.object wanted.page result }
 {
     let mut page = [0u8; 256];
-    let found = pager.fetch(wanted.object, wanted.page, &mut page);
-    beside(found, wanted)?;
+    pager
+        .fetch(wanted.object, wanted.page, &mut page)
+        .map_err(|fault| (fault, wanted))?;
     Ok(page)
 }
 

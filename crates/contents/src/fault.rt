@@ -4,14 +4,14 @@ ghost use Rattle.std.specs.Prelude.{◌≡◌};
 use pagers::PagerFault;
 
 // The page of an object that was to be fetched.
-#[derive(Clone, Copy)]
+#[derive(Clone, Copy, PartialEq, Eq, Debug)]
 pub struct Wanted {
     pub object: u16,
     pub page: u16,
 }
 
 // A pager's fault, and the page whose fetch met it.
-#[derive(Clone, Copy)]
+#[derive(Clone, Copy, PartialEq, Eq, Debug)]
 pub struct ObjectFault {
     pub fault: PagerFault,
     pub wanted: Wanted,

@@ -1,5 +1,6 @@
 -- The machine's own laws.
 use Rattle.std.proofs.Common.{◌≡◌, ℕ, suc, ◌%◌, ◌<◌, ◌≤◌, Bool, true, false, cond, ◌&&◌, eqb, List, [], ◌∷◌, Some, None, Option, sym, refl, ap, ◌∙◌, arith}
+use Rattle.std.proofs.lemmas.Option.{none-some}
 use Rattle.std.proofs.lemmas.Bool.{both_ways, cond_both, eq-eqb}
 use Rattle.pagers.specs.Meaning.{Content, Meaning, bytes, damaged}
 use Rattle.machine.specs.declared.words.Entry.{Entry}
@@ -71,9 +72,6 @@ cell_both : (Q : Cell → Type 0) (s : State) (r j : ℕ) (c : Cell) → Q c →
 unfolding with_cell
 cell_both Q s r j c new old u i = cond_both (eqb u r && eqb i j) c (s.cells u i) Q (λ e. new) (λ e. old u i)
 
-some_none : (m : ℕ) → Some m ≡ None → ⊥
-some_none m e = let z : ◌≡◌ {A = ℕ} 0 1 = cc in omega arith
-
 -- an unmarked cell has its source's content
 abbrev TrueTo : Meaning → Cell → Type 0
 TrueTo M c = c.mark ≡ None → c.content ≡ content_of M c.source
@@ -84,7 +82,7 @@ true_untouched M from e = refl
 
 true_written : (M : Meaning) (c : Cell) (at : ℕ) (new : List ℕ) (m : ℕ) → TrueTo M (written c at new m)
 unfolding written
-true_written M c at new m e = absurd (some_none m e)
+true_written M c at new m e = absurd (none-some m (sym e))
 
 sourced_kept : (M : Meaning) → Kept M (Sourced M)
 unfolding with_task after_write
@@ -107,16 +105,13 @@ BelowNumber n c = (m : ℕ) → c.mark ≡ Some m → m < n
 abbrev Numbered : State → Type 0
 Numbered s = (r i : ℕ) → BelowNumber s.writes (s.cells r i)
 
-same_number : (m n : ℕ) → Some m ≡ Some n → m ≡ n
-same_number m n e = cc
-
 below_untouched : (M : Meaning) (from : Source) (n : ℕ) → BelowNumber n (untouched M from)
 unfolding untouched
-below_untouched M from n m e = absurd (some_none m (sym e))
+below_untouched M from n m e = absurd (none-some m e)
 
 below_written : (c : Cell) (at : ℕ) (new : List ℕ) (n : ℕ) → BelowNumber (suc n) (written c at new n)
 unfolding written
-below_written c at new n m e = let same : n ≡ m = same_number n m e in omega arith
+below_written c at new n m e = let same : n ≡ m = cc in omega arith
 
 numbered_kept : (M : Meaning) → Kept M Numbered
 unfolding with_task with_record after_write with_cell
@@ -131,7 +126,7 @@ numbered_kept M = record {
 
 numbered_after : (M : Meaning) (n : ℕ) (calls : List Call) → Numbered (after M (start n) calls)
 unfolding start
-numbered_after M n calls = after_keeps (numbered_kept M) (start n) calls (λ r i m e. absurd (some_none m (sym e)))
+numbered_after M n calls = after_keeps (numbered_kept M) (start n) calls (λ r i m e. absurd (none-some m e))
 
 -- the next write's number never falls
 AtLeast : ℕ → State → Type 0

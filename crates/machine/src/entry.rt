@@ -19,57 +19,56 @@ impl Element for Entry {
     }
 
     fn front(&self, page: u16) -> Entry {
-        let mut part = *self;
-        part.pages = page - self.first;
-        part
+        Entry {
+            pages: page - self.first,
+            ..*self
+        }
     }
 
     fn back(&self, page: u16) -> Entry {
         let skipped = page - self.first;
-        let mut part = *self;
-        part.first = page;
-        part.pages = self.pages - skipped;
-        part.index = self.index + skipped;
-        part
+        Entry {
+            first: page,
+            pages: self.pages - skipped,
+            index: self.index + skipped,
+            ..*self
+        }
     }
 
     fn one(&self, page: u16) -> Entry {
-        let mut part = *self;
-        part.first = page;
-        part.pages = 1;
-        part.index = self.index + (page - self.first);
-        part
+        Entry {
+            first: page,
+            pages: 1,
+            index: self.index + (page - self.first),
+            ..*self
+        }
     }
 }
 
-// Gives each entry a protection.
-#[derive(Clone, Copy)]
-pub struct SetProtection(pub Protection);
+// As a change, a protection gives each entry itself.
+impl Change<Entry> for Protection {
+    ghost alters = { protected };
 
-impl Change<Entry> for SetProtection {
-    ghost alters = { λ c e. protected c.0 e };
-
-    ghost still = { λ c. protected_still c.0 };
+    ghost still = { protected_still };
 
     fn apply(&self, e: Entry) -> Entry {
-        let mut changed = e;
-        changed.protection = self.0;
-        changed
+        Entry {
+            protection: *self,
+            ..e
+        }
     }
 }
 
-// Gives each entry an inheritance.
-#[derive(Clone, Copy)]
-pub struct SetInheritance(pub Inheritance);
+// As a change, an inheritance gives each entry itself.
+impl Change<Entry> for Inheritance {
+    ghost alters = { inheriting };
 
-impl Change<Entry> for SetInheritance {
-    ghost alters = { λ c e. inheriting c.0 e };
-
-    ghost still = { λ c. inheriting_still c.0 };
+    ghost still = { inheriting_still };
 
     fn apply(&self, e: Entry) -> Entry {
-        let mut changed = e;
-        changed.inheritance = self.0;
-        changed
+        Entry {
+            inheritance: *self,
+            ..e
+        }
     }
 }

@@ -5,6 +5,5 @@ mod entry;
 mod theorems;
 mod words;
 
-pub use entry::{SetInheritance, SetProtection};
 pub use theorems::{machine_laws, worked_examples};
-pub use words::{Entry, Inheritance, Protection};
+pub use words::{Entry, Inheritance, Protection, UnknownNumber};

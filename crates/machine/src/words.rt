@@ -1,9 +1,9 @@
 // Protections, inheritances and map entries.
-ghost use Rattle.std.specs.Prelude.{◌≡◌, if◌then◌else◌, Some, None, nat_le};
-ghost use Rattle.machine.specs.Words.{protection_at, inheritance_at, rank};
+ghost use Rattle.std.specs.Prelude.{◌≡◌};
+ghost use Rattle.machine.specs.Words.{protection_at, inheritance_at, numbered, rank};
 
 // What a task may do with the pages of an entry.
-#[derive(Clone, Copy)]
+#[derive(Clone, Copy, PartialEq, Eq, Debug)]
 pub enum Protection {
     None,
     Read,
@@ -11,31 +11,39 @@ pub enum Protection {
 }
 
 // What a fork gives the child of an entry.
-#[derive(Clone, Copy)]
+#[derive(Clone, Copy, PartialEq, Eq, Debug)]
 pub enum Inheritance {
     None,
     Share,
     Copy,
 }
 
-impl Protection {
-    // The protection that a caller's number stands for: 0, 1 or 2.
-    pub fn from_number(number: u8) -> Option<Protection>
-        ensures { result ≡ (if nat_le number 2 then Some (protection_at number) else None) }
-    {
+// A number that stands for no protection and no inheritance.
+#[derive(Clone, Copy, PartialEq, Eq, Debug)]
+pub struct UnknownNumber(pub u8);
+
+// The protection that a caller's number stands for: 0, 1 or 2.
+impl TryFrom<u8> for Protection {
+    type Error = UnknownNumber;
+
+    ghost try_from_gives = { λ number r. r ≡ numbered protection_at number };
+
+    fn try_from(number: u8) -> Result<Protection, UnknownNumber> {
         match number {
-            0 => Some(Protection::None),
-            1 => Some(Protection::Read),
-            2 => Some(Protection::ReadWrite),
-            _ => None,
+            0 => Ok(Protection::None),
+            1 => Ok(Protection::Read),
+            2 => Ok(Protection::ReadWrite),
+            _ => Err(UnknownNumber(number)),
         }
     }
+}
 
-    // The number that stands for the protection.
-    pub fn number(self) -> u8
-        ensures { result ≡ rank self }
-    {
-        match self {
+// The number that stands for a protection.
+impl From<Protection> for u8 {
+    ghost from_gives = { λ protection number. number ≡ rank protection };
+
+    fn from(protection: Protection) -> u8 {
+        match protection {
             Protection::None => 0,
             Protection::Read => 1,
             Protection::ReadWrite => 2,
@@ -43,23 +51,25 @@ impl Protection {
     }
 }
 
-impl Inheritance {
-    // The inheritance that a caller's number stands for: 0, 1 or 2.
-    pub fn from_number(number: u8) -> Option<Inheritance>
-        ensures { result ≡ (if nat_le number 2 then Some (inheritance_at number) else None) }
-    {
+// The inheritance that a caller's number stands for: 0, 1 or 2.
+impl TryFrom<u8> for Inheritance {
+    type Error = UnknownNumber;
+
+    ghost try_from_gives = { λ number r. r ≡ numbered inheritance_at number };
+
+    fn try_from(number: u8) -> Result<Inheritance, UnknownNumber> {
         match number {
-            0 => Some(Inheritance::None),
-            1 => Some(Inheritance::Share),
-            2 => Some(Inheritance::Copy),
-            _ => None,
+            0 => Ok(Inheritance::None),
+            1 => Ok(Inheritance::Share),
+            2 => Ok(Inheritance::Copy),
+            _ => Err(UnknownNumber(number)),
         }
     }
 }
 
 // A map entry: a row of pages, and for each of them the cell that it names. The first page names the cell
 // `index` of the sharing record, and the index rises by one a page.
-#[derive(Clone, Copy)]
+#[derive(Clone, Copy, PartialEq, Eq, Debug)]
 pub struct Entry {
     pub first: u16,
     pub pages: u16,

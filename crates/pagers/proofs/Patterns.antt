@@ -1,7 +1,6 @@
 -- The pattern's bytes, one by one.
 use Rattle.std.proofs.Common.{◌≡◌, ℕ, zero, suc, ◌+◌, ◌*◌, ◌%◌, ◌<◌, List, length, get_or, sym, ap, ◌∙◌, arith}
 use Rattle.std.proofs.lemmas.List.{ext_get_or}
-use Rattle.std.proofs.lemmas.Bool.{eq-eqb, ne_eqb, cond-true, cond-false}
 use Rattle.pagers.specs.Meaning.{bytes}
 use Rattle.pagers.specs.Pattern.{counting, pattern_page, pattern}
 use Rattle.pagers.specs.Bounds.{length_counting}
@@ -18,11 +17,3 @@ unfolding pattern pattern_page
 fills p m xs long each =
     ap bytes (sym (ext_get_or 0 xs _ (long ∙ sym (length_counting (31 * p) 256))
     (λ k below. let l : k < 256 = omega arith in each k l ∙ sym (get_or_counting (31 * p) 256 k l))))
-
-pub count_zero : (m : ℕ) → m ≡ 0 → pattern.count m ≡ 64
-unfolding pattern
-count_zero m e = cond-true _ _ _ (eq-eqb m 0 e)
-
-pub count_other : (m : ℕ) → (m ≡ 0 → ⊥) → pattern.count m ≡ 0
-unfolding pattern
-count_other m n = cond-false _ _ _ (ne_eqb m 0 n)

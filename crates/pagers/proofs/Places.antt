@@ -1,9 +1,11 @@
 -- The extents that a table holds, and those that were put into it.
-use Rattle.std.proofs.Common.{◌≡◌, ℕ, suc, ◌+◌, ◌<◌, ◌≤◌, Bool, true, false, cond, not, ◌&&◌, ◌||◌, ltb, List, [], ◌∷◌, length, Some, None, Option, sym, refl, ap, ◌∙◌, inl, inr, ⊎_elim, arith}
-use Rattle.std.proofs.lemmas.Bool.{or_parts, ltb-true, leb-true, lt-ltb, and_parts, and_from, cond-true, cases_Bool, both_ways}
-use Rattle.std.specs.Option.{option_map}
+use Rattle.std.proofs.Common.{◌≡◌, ℕ, ◌+◌, ◌<◌, Bool, true, false, cond, not, ◌&&◌, ◌||◌, ltb, List, [], ◌∷◌, Some, None, Option, sym, refl, ap, ◌∙◌, inl, inr, ⊎_elim, arith}
+use Rattle.std.proofs.lemmas.Bool.{or_parts, lt-ltb, and_from, cond-true, cases_Bool, both_ways}
+use Rattle.std.specs.Option.{option_map, option_or}
+use Rattle.std.proofs.Math.Bool.{or_assoc, or_comm}
 use Rattle.ranges.specs.Tables.{said, taken, inserted}
 use Rattle.ranges.specs.Says.{Inserts}
+use Rattle.ranges.proofs.Facts.{holds_facts}
 use Rattle.pagers.specs.declared.extent.Extent.{Extent}
 use Rattle.pagers.specs.Extents.{extent_shape, position_of}
 use Rattle.pagers.specs.Images.{has, overlap, crosses, place, within, sound}
@@ -12,10 +14,10 @@ abbrev pub position : Extent → ℕ
 position e = e.position
 
 -- a page's place is where its extent of one page lies
-pub place_said : (p : ℕ) (es : List Extent) → option_map position (said extent_shape p es) ≡ place p es
+pub place_said : (p : ℕ) (es : List Extent) → place p es ≡ option_map position (said extent_shape p es)
 place_said p [] = refl
 place_said p (e ∷ es) =
-    elim (has p e) as (λ b. option_map position (cond b (Some (extent_shape.one p e)) (said extent_shape p es)) ≡ cond b (Some (position_of p e)) (place p es)) [
+    elim (has p e) as (λ b. cond b (Some (position_of p e)) (place p es) ≡ option_map position (cond b (Some (extent_shape.one p e)) (said extent_shape p es))) [
       | true ↦ refl
       | false ↦ place_said p es
     ]
@@ -25,10 +27,7 @@ taken_crosses e [] = refl
 taken_crosses e (x ∷ xs) = ap (λ b. overlap e x || b) (taken_crosses e xs)
 
 or_swap : (a b c : Bool) → (a || (b || c)) ≡ (b || (a || c))
-or_swap true true c = refl
-or_swap true false c = refl
-or_swap false true c = refl
-or_swap false false c = refl
+or_swap a b c = sym (or_assoc a b c) ∙ ap (λ x. x || c) (or_comm a b) ∙ or_assoc b a c
 
 pub crosses_inserted : (x e : Extent) (es : List Extent) → crosses x (inserted extent_shape e es) ≡ crosses x (e ∷ es)
 crosses_inserted x e [] = refl
@@ -38,21 +37,10 @@ crosses_inserted x e (y ∷ ys) =
       | false ↦ ap (λ b. overlap x y || b) (crosses_inserted x e ys) ∙ or_swap (overlap x y) (overlap x e) (crosses x ys)
     ]
 
-pub length_inserted : (e : Extent) (es : List Extent) → length (inserted extent_shape e es) ≡ suc (length es)
-length_inserted e [] = refl
-length_inserted e (y ∷ ys) =
-    elim (ltb e.first y.first) as (λ b. length (cond b (e ∷ (y ∷ ys)) (y ∷ inserted extent_shape e ys)) ≡ suc (suc (length ys))) [
-      | true ↦ refl
-      | false ↦ ap suc (length_inserted e ys)
-    ]
-
-has_facts : (p : ℕ) (e : Extent) → has p e ≡ true → (e.first ≤ p) × (p < e.first + e.pages)
-has_facts p e h = let both = and_parts _ _ h in (leb-true _ _ both.0, ltb-true _ _ both.1)
-
 overlaps : (p : ℕ) (a b : Extent) → has p a ≡ true → has p b ≡ true → overlap a b ≡ true
 overlaps p a b in_a in_b =
-    let f = has_facts p a in_a in
-    let g = has_facts p b in_b in
+    let f = holds_facts extent_shape p a in_a in
+    let g = holds_facts extent_shape p b in_b in
     let below : a.first < b.first + b.pages = omega arith in
     let above : b.first < a.first + a.pages = omega arith in
     and_from _ _ (lt-ltb _ _ below) (lt-ltb _ _ above)
@@ -67,31 +55,23 @@ apart_place p e (x ∷ xs) here free =
       | inr no' ↦ ap (λ b. cond b (Some (position_of p x)) (place p xs)) no' ∙ apart_place p e xs here parts.1
     ]
 
--- the first of two
-abbrev pub either : Option ℕ → Option ℕ → Option ℕ
-either None b = b
-either (Some k) b = Some k
-
-either_none : (a : Option ℕ) → either a None ≡ a
-either_none None = refl
-either_none (Some k) = refl
-
-pub all_places : (a b : Option ℕ) → b ≡ None → either a b ≡ a
-all_places a b e = ap (either a) e ∙ either_none a
+pub all_places : (a b : Option ℕ) → b ≡ None → option_or a b ≡ a
+all_places None b e = e
+all_places (Some k) b e = refl
 
 -- an extent taken off the list and put into the table
-pub moved_place : (p : ℕ) (e : Extent) (old new es : List Extent) → crosses e old ≡ false → Inserts extent_shape e old new → either (place p old) (place p (e ∷ es)) ≡ either (place p new) (place p es)
+pub moved_place : (p : ℕ) (e : Extent) (old new es : List Extent) → crosses e old ≡ false → Inserts extent_shape e old new → option_or (place p old) (place p (e ∷ es)) ≡ option_or (place p new) (place p es)
 moved_place p e old new es free says =
     let is : place p new ≡ cond (has p e) (Some (position_of p e)) (place p old) =
-    sym (place_said p new) ∙ ap (option_map position) (says p) ∙ place_said p (e ∷ old) in
+    place_said p new ∙ ap (option_map position) (says p) ∙ sym (place_said p (e ∷ old)) in
     ⊎_elim
     (λ (here : has p e ≡ true).
-    ap (λ a. either a (place p (e ∷ es))) (apart_place p e old here free)
+    ap (λ a. option_or a (place p (e ∷ es))) (apart_place p e old here free)
     ∙ cond-true _ _ _ here
-    ∙ sym (ap (λ a. either a (place p es)) (is ∙ cond-true _ _ _ here)))
+    ∙ sym (ap (λ a. option_or a (place p es)) (is ∙ cond-true _ _ _ here)))
     (λ (away : has p e ≡ false).
-    ap (λ b. either (place p old) (cond b (Some (position_of p e)) (place p es))) away
-    ∙ sym (ap (λ a. either a (place p es)) (is ∙ ap (λ b. cond b (Some (position_of p e)) (place p old)) away)))
+    ap (λ b. option_or (place p old) (cond b (Some (position_of p e)) (place p es))) away
+    ∙ sym (ap (λ a. option_or a (place p es)) (is ∙ ap (λ b. cond b (Some (position_of p e)) (place p old)) away)))
     (cases_Bool (has p e))
 
 -- soundness asks of the extents before only which they cross
@@ -105,6 +85,3 @@ pub moved_sound : (n : ℕ) (e : Extent) (old new es : List Extent) → (within 
 moved_sound n e old new es ok is =
     ap (λ b. b && sound n (e ∷ old) es) ok
     ∙ sound_same n (e ∷ old) new es (λ x. sym (ap (crosses x) is ∙ crosses_inserted x e old))
-
-pub refused_sound : (n : ℕ) (e : Extent) (old es : List Extent) → (within n e && not (crosses e old)) ≡ false → sound n old (e ∷ es) ≡ false
-refused_sound n e old es bad = ap (λ b. b && sound n (e ∷ old) es) bad

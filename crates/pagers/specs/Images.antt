@@ -1,5 +1,6 @@
 -- What an image file says, read off its bytes: page count, number of extents, the extents, the data.
 use Rattle.std.specs.Prelude.{ℕ, zero, suc, ◌+◌, ◌*◌, Bool, true, false, cond, not, ◌&&◌, ◌||◌, List, [], ◌∷◌, length, take, drop, replicate, Some, None, Option, ◌==◌, nat_le, nat_lt, slice_index}
+use Rattle.pagers.specs.declared.PagerFault.{PagerFault}
 use Rattle.pagers.specs.declared.extent.Extent.{Extent}
 use Rattle.pagers.specs.Extents.{extent, position_of}
 use Rattle.pagers.specs.Meaning.{Meaning, Content, bytes, damaged}
@@ -23,6 +24,10 @@ extent_count file = slice_index file 2
 -- eight bytes an extent from byte 3 on: its first page, its pages, its position
 abbrev pub extent_at : List ℕ → ℕ → Extent
 extent_at file i = extent (short_at file (3 + 8 * i)) (short_at file (5 + 8 * i)) (long_at file (7 + 8 * i))
+
+-- an extent's eight bytes by themselves
+abbrev pub extent_in : List ℕ → Extent
+extent_in row = extent (short_at row 0) (short_at row 2) (long_at row 4)
 
 -- the n extents from number i on
 abbrev pub extents_from : List ℕ → ℕ → ℕ → List Extent
@@ -76,11 +81,15 @@ place p (e ∷ es) = cond (has p e) (Some (position_of p e)) (place p es)
 unfoldable pub zeros : List ℕ
 zeros = replicate 256 0
 
+-- the damage of a page whose bytes do not all lie in the data
+abbrev pub past_data : ℕ → PagerFault
+past_data p = record { cause = 2; object = 0; page = p }
+
 -- page p: zeros if it is in no extent, else the 256 bytes at its place, or cause 2 if they do not all lie in the data
 abbrev pub stored : List ℕ → ℕ → Option ℕ → Content
 stored body p None = bytes zeros
 stored body p (Some k) =
-    cond (nat_le (k + 256) (length body)) (bytes (take 256 (drop k body))) (damaged (record { cause = 2; object = 0; page = p }))
+    cond (nat_le (k + 256) (length body)) (bytes (take 256 (drop k body))) (damaged (past_data p))
 
 -- object 0 alone has pages, and its extents say where they lie in the data
 abbrev pub laid : ℕ → List Extent → List ℕ → Meaning

@@ -1,9 +1,10 @@
 -- What a layout says of the data of a file.
-use Rattle.std.specs.Prelude.{ℕ, List, take}
+use Rattle.std.specs.Prelude.{ℕ, List}
+use Rattle.ranges.specs.Held.{held}
 use Rattle.pagers.specs.declared.layout.Layout.{Layout}
 use Rattle.pagers.specs.Images.{laid}
 use Rattle.pagers.specs.Meaning.{Meaning}
 
--- the rows in use say where the pages lie in the data
+-- the extents say where the pages lie in the data
 abbrev pub over : Layout → List ℕ → Meaning
-over l body = laid l.pages (take l.used l.rows) body
+over l body = laid l.pages (held l.extents) body

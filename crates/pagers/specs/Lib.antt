@@ -1,5 +1,4 @@
 pub mod Bounds
-pub mod Entering
 pub mod Extents
 pub mod Images
 pub mod Layouts

@@ -4,7 +4,7 @@ ghost use Rattle.pagers.specs.Extents.{extent_shape, extent_laws};
 use ranges::Element;
 
 // Pages in a row whose bytes lie in a file from a position on, 256 a page.
-#[derive(Clone, Copy)]
+#[derive(Clone, Copy, PartialEq, Eq, Default, Debug)]
 pub struct Extent {
     pub first: u16,
     pub pages: u16,
@@ -26,9 +26,8 @@ impl Element for Extent {
 
     fn front(&self, page: u16) -> Extent {
         Extent {
-            first: self.first,
             pages: page - self.first,
-            position: self.position,
+            ..*self
         }
     }
 
@@ -37,7 +36,7 @@ impl Element for Extent {
         Extent {
             first: page,
             pages: self.pages - skipped,
-            position: self.position + 256 * skipped as u64,
+            position: self.position + 256 * u64::from(skipped),
         }
     }
 
@@ -46,7 +45,7 @@ impl Element for Extent {
         Extent {
             first: page,
             pages: 1,
-            position: self.position + 256 * skipped as u64,
+            position: self.position + 256 * u64::from(skipped),
         }
     }
 }

@@ -1,5 +1,6 @@
-// The fault of a page that is not there.
+// The faults that a pager of this library makes itself.
 ghost use Rattle.std.specs.Prelude.{◌≡◌};
+ghost use Rattle.pagers.specs.Images.{past_data};
 ghost use Rattle.pagers.specs.Meaning.{missing};
 
 use crate::PagerFault;
@@ -12,6 +13,17 @@ impl PagerFault {
         PagerFault {
             cause: 0,
             object,
+            page,
+        }
+    }
+
+    // The bytes of a page of object 0 do not all lie in an image's data.
+    pub(crate) fn past_data(page: u16) -> PagerFault
+        ensures { result ≡ past_data page }
+    {
+        PagerFault {
+            cause: 2,
+            object: 0,
             page,
         }
     }

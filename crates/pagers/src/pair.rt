@@ -33,18 +33,16 @@ impl<A: Pager, B: Pager> Pager for Pair<A, B> {
     ghost bounded = { λ p. paired_bounded p.split (A.Pager.meaning p.first) (B.Pager.meaning p.second) (A.Pager.bounded p.first) (B.Pager.bounded p.second) };
 
     fn count(&mut self, object: u16) -> u16 {
-        if object < self.split {
-            self.first.count(object)
-        } else {
-            self.second.count(object - self.split)
+        match object.checked_sub(self.split) {
+            Some(own) => self.second.count(own),
+            None => self.first.count(object),
         }
     }
 
     fn fetch(&mut self, object: u16, page: u16, into: &mut [u8; 256]) -> Result<(), PagerFault> {
-        if object < self.split {
+        let Some(own) = object.checked_sub(self.split) else {
             return self.first.fetch(object, page, into);
-        }
-        let own = object - self.split;
+        };
         if page >= self.second.count(own) {
             return Err(PagerFault::missing(object, page));
         }

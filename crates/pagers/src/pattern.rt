@@ -12,6 +12,7 @@ use crate::pager::Pager;
 pub struct Pattern;
 
 // How many pages the object has.
+#[tactic(auto, unfolding(crate::specs::Pattern::pattern))]
 fn pages_of(object: u16) -> u16
     ensures is { result ≡ pattern.count object }
     ensures most { result ≤ 64 }
@@ -25,16 +26,17 @@ fn byte_of(page: u16, i: usize) -> u8
     requires within { i < 256 }
     ensures { result ≡ (31 * page + i) % 256 }
 {
-    ((31 * page as usize + i) % 256) as u8
+    ((31 * usize::from(page) + i) % 256) as u8
 }
 
 // Writes the page into the buffer: it is the same for every object.
+#[tactic(auto, using(crate::proofs::Patterns::fills))]
 fn fill(page: u16, into: &mut [u8; 256])
     requires { page < 64 }
     ensures { (m : ℕ) → pattern.page m page ≡ bytes into.new }
 {
-    for i in 0..256 {
-        into[i] = byte_of(page, i);
+    for (i, byte) in into.iter_mut().enumerate() {
+        *byte = byte_of(page, i);
     }
 }
 

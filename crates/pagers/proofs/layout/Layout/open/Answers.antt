@@ -1,19 +1,19 @@
-use Rattle.std.proofs.Common.{sym, ◌∙◌}
-use Rattle.pagers.proofs.Openings.{parted_more, parted_bad, parted_good, parted_meaning}
+use Rattle.std.proofs.Common.{length, ap, ◌∙◌, arith}
+use Rattle.ranges.specs.Held.{held}
+use Rattle.ranges.proofs.Inserts.{inserted_length}
+use Rattle.pagers.specs.Extents.{extent_shape}
+use Rattle.pagers.proofs.Openings.{parted_more, parted_meaning}
 use Rattle.pagers.proofs.layout.Layout.open.Goals as goal
 
-pub returns-then-not-enter : goal.returns-then-not-enter
-returns-then-not-enter c = record {
-  exactly = parted_bad c.args.file.now c.loop-i.i c.short-pages.result c.extent.result c.loop-i.rows c.enter.new.rows c.enter.result c.loop-i-test.true c.loop-i.invariant.1 c.extent.ensures.is c.short-pages.ensures c.enter.ensures c.if-not-enter.true;
-  meaning = tt;
-}
+pub loop-row-preserved : goal.loop-row-preserved
+loop-row-preserved c =
+    let put = c.in_ok-enter.ensures.becomes in
+    record {
+      pages = cc;
+      size = ap length put.1 ∙ inserted_length extent_shape c.extent.result (held c.loop-row.layout.extents) ∙ omega (arith, c.loop-row.invariant.size);
+      parted = parted_more _ _ _ c.in_ok-pages.table.now c.loop-row.row-index c.extent.result c.loop-row-test.true c.extent.ensures.is c.loop-row.invariant.parted _ _ c.loop-row.invariant.pages put.0 put.1 c.in_ok-enter.ensures.says;
+    }
 
-pub loop-i-preserved : goal.loop-i-preserved
-loop-i-preserved c =
-    (c.enter.array_long, parted_more c.args.file.now c.loop-i.i c.short-pages.result c.extent.result c.loop-i.rows c.enter.new.rows c.enter.result c.loop-i-test.true c.loop-i.invariant.1 c.extent.ensures.is c.short-pages.ensures c.enter.ensures c.if-not-enter.false)
-
-pub returns : goal.returns
-returns c = record {
-  exactly = parted_good c.args.file.now c.loop-i.i c.short-pages.result c.loop-i.rows c.loop-i-test.false c.loop-i.auto.i-end c.loop-i.invariant.1 (sym c.is_headed.ensures ∙ c.if-not-is_headed.false);
-  meaning = parted_meaning c.args.file.now c.loop-i.i c.short-pages.result c.loop-i.rows c.loop-i-test.false c.loop-i.auto.i-end c.loop-i.invariant.1 c.short-pages.ensures;
-}
+pub returns-clause-meaning : goal.returns-clause-meaning
+returns-clause-meaning c =
+    parted_meaning c.args.file.now c.loop-row.layout.pages _ _ c.in_ok-pages.table.now c.loop-row.row-index c.loop-row.invariant.pages (omega (arith, c.loop-row.invariant.size, c.in_ok-pages.ensures.few.0)) c.loop-row-test.false c.loop-row.invariant.parted
