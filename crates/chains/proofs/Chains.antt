@@ -13,7 +13,7 @@ use Rattle.chains.specs.Sound.{Apart}
 use Rattle.chains.proofs.Finds.{slot_some, bare_none, none_bare, slot_is}
 
 pub root_shadow : {g : Origin} {p : ℕ} (b : Backing) → b ≡ Root g → b ≡ Shadow p → ⊥
-root_shadow b h k = let z : ◌≡◌ {A = ℕ} 0 1 = cc in omega arith
+root_shadow b h k = cc
 
 pub free_live : (b : Backing) → b ≡ Free → live b ≡ true → ⊥
 free_live b h k = both_ways (live b) (ap live h) k

@@ -483,17 +483,6 @@ module _ (N M F : ℕ) where
       thins = collapsed_thins;
     }
 
-  -- nothing need be done
-  pub still_settles : (B : ℕ → Backing) (W : ℕ → Option Owner) (T : ℕ → Option ℕ) (x : ℕ) → Formed N M F B W T → ((a : ℕ) → live (B a) ≡ true → (a ≡ x → ⊥) → 2 ≤ weight N M B T a) → 2 ≤ weight N M B T x → Settles N M F B B W W T
-  still_settles B W T x F₀ others h = record {
-    sound = record {
-      formed = F₀;
-      settled = λ a l. elim (cases_eq a x) [ inl e ↦ omega (arith, h, ap (weight N M B T) e) | inr d ↦ others a l d ];
-    };
-    keeps = λ r o i n e t w. (n, w);
-    thins = λ s w g. (w, g, refl);
-  }
-
   -- one change after another
   pub then_settles : (B B₁ B' : ℕ → Backing) (W W₁ W' : ℕ → Option Owner) (T : ℕ → Option ℕ) → Keeps B W B₁ W₁ T → Thins W W₁ → Settles N M F B₁ B' W₁ W' T → Settles N M F B B' W W' T
   then_settles B B₁ B' W W₁ W' T keeps thins S = record {

@@ -7,7 +7,7 @@ use Rattle.chains.specs.Walks.{lowest, slot_of, Bare}
 use Rattle.chains.specs.Sound.{Apart}
 
 pub none_some : {A : Type 0} {a : A} (x : Option A) → x ≡ None → x ≡ Some a → ⊥
-none_some x p q = let z : ◌≡◌ {A = ℕ} 0 1 = cc in omega arith
+none_some x p q = cc
 
 -- what the search finds
 pub lowest_none : (n : ℕ) (p : ℕ → Bool) → lowest n p ≡ None → (k : ℕ) → k < n → p k ≡ false

@@ -99,22 +99,8 @@ unfolding sum_to
 sum_swap zero m f = sym (sum_zero m (λ b. 0) (λ k l. refl))
 sum_swap (suc n) m f = ap (λ x. x + sum_to m (λ b. f n b)) (sum_swap n m f) ∙ sym (sum_add m (λ b. sum_to n (λ a. f a b)) (λ b. f n b))
 
--- a loop that counts
-pub count_none : (p : ℕ → Bool) → 0 ≡ count 0 p
-unfolding sum_to
-count_none p = refl
-
-pub count_hit : (p : ℕ → Bool) (n i : ℕ) → n ≡ count i p → p i ≡ true → n + 1 ≡ count (i + 1) p
-count_hit p n i h t = omega (arith, h, sum_more i (λ k. bit (p k)), ap bit t)
-
-pub count_miss : (p : ℕ → Bool) (n i : ℕ) → n ≡ count i p → p i ≡ false → n ≡ count (i + 1) p
-count_miss p n i h f = omega (arith, h, sum_more i (λ k. bit (p k)), ap bit f)
-
 pub count_le : (p : ℕ → Bool) (n : ℕ) → count n p ≤ n
 count_le p n = sum_ones n _ (λ k l. bit_le (p k))
-
-pub count_low : (p : ℕ → Bool) (n i : ℕ) → n ≡ count i p → n ≤ i
-count_low p n i h = omega (arith, h, count_le p i)
 
 -- a number that fails the test is not counted
 pub count_but : (p : ℕ → Bool) (N n : ℕ) → n < N → p n ≡ false → count N p + 1 ≤ N

@@ -71,10 +71,10 @@ shadow_live (Shadow p) = omega arith
 
 -- what shadows o is a shadow of o
 pub shadows_true : (o : ℕ) (b : Backing) → is_shadowing o b ≡ true → b ≡ Shadow o
-shadows_true o Free h = let z : ◌≡◌ {A = ℕ} 0 1 = cc in absurd (omega arith)
-shadows_true o (Root g) h = let z : ◌≡◌ {A = ℕ} 0 1 = cc in absurd (omega arith)
+shadows_true o Free h = cc
+shadows_true o (Root g) h = cc
 shadows_true o (Shadow p) h = ap Shadow (eqb-true p o h)
 
 pub names_true : (o : ℕ) (x : Option ℕ) → is_naming o x ≡ true → x ≡ Some o
-names_true o None h = let z : ◌≡◌ {A = ℕ} 0 1 = cc in absurd (omega arith)
+names_true o None h = cc
 names_true o (Some p) h = ap Some (eqb-true p o h)

@@ -5,14 +5,14 @@ ghost use Rattle.std.specs.Prelude.{◌≡◌};
 ghost use Rattle.chains.specs.declared.Backing.TheVariants.{Free};
 
 // What the pages of a root object are to begin with: zeros, or the pages of a pager's object from page `first` on.
-#[derive(Clone, Copy)]
+#[derive(Clone, Copy, Debug, PartialEq, Eq)]
 pub enum Origin {
     Zeros,
     Page { object: u16, first: u16 },
 }
 
 // A row of the object table.
-#[derive(Clone, Copy)]
+#[derive(Clone, Copy, Debug, PartialEq, Eq)]
 pub enum Backing {
     Free,
     Root(Origin),
@@ -20,14 +20,14 @@ pub enum Backing {
 }
 
 // The object and the index that a held frame belongs to.
-#[derive(Clone, Copy)]
+#[derive(Clone, Copy, Debug, PartialEq, Eq)]
 pub struct Owner {
     pub object: u16,
     pub index: u16,
 }
 
 // Where a walk ends: at a frame's slot, at zeros, or at a page of a pager's object.
-#[derive(Clone, Copy)]
+#[derive(Clone, Copy, Debug, PartialEq, Eq)]
 pub enum End {
     Frame(u8),
     Zeros,
@@ -35,7 +35,7 @@ pub enum End {
 }
 
 // A walk: its end, and the number of objects that it visits.
-#[derive(Clone, Copy)]
+#[derive(Clone, Copy, Debug, PartialEq, Eq)]
 pub struct Walk {
     pub end: End,
     pub length: u16,
@@ -47,9 +47,7 @@ impl Backing {
         ensures was { result ≡ self.old }
         ensures free { self.new ≡ Free }
     {
-        let backing = *self;
-        *self = Backing::Free;
-        backing
+        std::mem::replace(self, Backing::Free)
     }
 
     // The row of the one object that shadows it: takes over the backing.

@@ -1,5 +1,5 @@
 -- Edits of a whole table, row by row.
-use Rattle.std.proofs.Common.{◌≡◌, ℕ, ◌<◌, ◌≤◌, List, length, get_or, set, replicate, sym, ap, ◌∙◌, inl, inr, arith}
+use Rattle.std.proofs.Common.{◌≡◌, ℕ, ◌<◌, ◌≤◌, List, length, get_or, set, replicate, ap, ◌∙◌, inl, inr, arith}
 use Rattle.std.proofs.lemmas.List.{get_or-set_same, get_or-set_other, get_or_past, get_or-replicate, length-replicate}
 use Rattle.std.proofs.lemmas.Bool.{cases_lt}
 use Rattle.chains.specs.Sound.{Put}
@@ -7,13 +7,6 @@ use Rattle.chains.specs.Sound.{Put}
 -- the first i rows are edited
 abbrev pub Edited : {A : Type 0} → A → (A → A) → List A → List A → ℕ → Type 0
 Edited d f xs ys i = ((s : ℕ) → s < i → get_or ys s d ≡ f (get_or xs s d)) × ((s : ℕ) → i ≤ s → get_or ys s d ≡ get_or xs s d)
-
-pub edited_all : {A : Type 0} (d : A) (f : A → A) (xs ys : List A) (n i : ℕ) → length xs ≡ n → length ys ≡ n → n ≤ i → f d ≡ d → Edited d f xs ys i → (s : ℕ) → get_or ys s d ≡ f (get_or xs s d)
-edited_all d f xs ys n i p q l z e s =
-    elim (cases_lt s i) [
-      | inl k ↦ e.0 s k
-      | inr k ↦ get_or_past ys s d (omega arith) ∙ sym z ∙ ap f (sym (get_or_past xs s d (omega arith)))
-    ]
 
 -- one row is set
 pub set_put : {A : Type 0} (d : A) (xs ys : List A) (k : ℕ) (x : A) → k < length xs → ys ≡ set xs k x → Put (λ j. get_or xs j d) (λ j. get_or ys j d) k x

@@ -1,6 +1,8 @@
 -- The walks of sound tables: the functions give what the relation says.
 use Rattle.std.proofs.Common.{◌≡◌, ℕ, suc, ◌+◌, ◌-◌, ◌≤◌, Bool, true, false, is_some, Some, None, Option, sym, refl, ap, ◌∙◌, subst, arith}
 use Rattle.std.proofs.lemmas.Bool.{both_ways}
+use Rattle.std.specs.declared.ops.ControlFlow.{ControlFlow}
+use Rattle.std.specs.declared.ops.ControlFlow.TheVariants.{Continue, Break}
 use Rattle.chains.specs.declared.Origin.{Origin}
 use Rattle.chains.specs.declared.Origin.TheVariants.{Zeros, Page}
 use Rattle.chains.specs.declared.Backing.{Backing}
@@ -15,8 +17,6 @@ use Rattle.chains.proofs.Finds.{slot_some, none_bare, none_some}
 use Rattle.chains.proofs.Chains.{walk_total, walk_end_is, walk_length_is, walk_le, chain_live, chain_next}
 use Rattle.chains.proofs.Counting.{chain_short}
 use Rattle.objects.specs.declared.tables.Tables.{Tables}
-use Rattle.objects.specs.declared.tables.Step.{Step}
-use Rattle.objects.specs.declared.tables.Step.TheVariants.{Ends, Below}
 use Rattle.objects.specs.View.{backing, owner_of, top_of, in_use, walk_end, walk_length, records_used, SoundTables}
 use Rattle.objects.specs.Says.{step_at, step_on, index_of}
 
@@ -33,8 +33,8 @@ used_top t r h = at (top_of t r) refl h
 
 -- a source is no frame
 pub source_frame : (i s : ℕ) (g : Origin) → source g i ≡ Frame s → ⊥
-source_frame i s Zeros p = let z : ◌≡◌ {A = ℕ} 0 1 = cc in omega arith
-source_frame i s (Page m q) p = let z : ◌≡◌ {A = ℕ} 0 1 = cc in omega arith
+source_frame i s Zeros p = cc
+source_frame i s (Page m q) p = cc
 
 module _ (t : Tables) (S : SoundTables t) where
   pub top_chain : (r o : ℕ) → top_of t r ≡ Some o → (n : ℕ) × Chain (backing t) o n
@@ -107,22 +107,22 @@ same_end t t' S S' r r' o o' i top top' goes =
 
 -- the steps of a walk
 module _ (t : Tables) (S : SoundTables t) (o i : ℕ) where
-  pub step_ends : (e : End) → Some (Ends e) ≡ step_at t o i → WalksIn t i o e 1
+  pub step_ends : (e : End) → Some (Break e) ≡ step_at t o i → WalksIn t i o e 1
   step_ends e h = at (slot_of 128 (owner_of t) o i) (backing t o) refl refl h
     where
-      at : (x : Option ℕ) (b : Backing) → slot_of 128 (owner_of t) o i ≡ x → backing t o ≡ b → Some (Ends e) ≡ step_on x b i → WalksIn t i o e 1
+      at : (x : Option ℕ) (b : Backing) → slot_of 128 (owner_of t) o i ≡ x → backing t o ≡ b → Some (Break e) ≡ step_on x b i → WalksIn t i o e 1
       at (Some s) b p q k = let z : Frame s ≡ e = cc in subst (λ y. WalksIn t i o y 1) z (at_frame (slot_some 128 (owner_of t) o i s p))
       at None Free p q k = absurd (none_some None refl (sym k))
       at None (Root g) p q k = let z : source g i ≡ e = cc in subst (λ y. WalksIn t i o y 1) z (at_root (none_bare 128 (owner_of t) S.formed.frames o i p) q)
-      at None (Shadow u) p q k = absurd (let z : ◌≡◌ {A = ℕ} 0 1 = cc in omega arith)
+      at None (Shadow u) p q k = cc
 
-  pub step_below : (p : ℕ) → Some (Below p) ≡ step_at t o i → Bare (owner_of t) o i × (backing t o ≡ Shadow p)
+  pub step_below : (p : ℕ) → Some (Continue p) ≡ step_at t o i → Bare (owner_of t) o i × (backing t o ≡ Shadow p)
   step_below p h = at (slot_of 128 (owner_of t) o i) (backing t o) refl refl h
     where
-      at : (x : Option ℕ) (b : Backing) → slot_of 128 (owner_of t) o i ≡ x → backing t o ≡ b → Some (Below p) ≡ step_on x b i → Bare (owner_of t) o i × (backing t o ≡ Shadow p)
-      at (Some s) b u q k = absurd (let z : ◌≡◌ {A = ℕ} 0 1 = cc in omega arith)
+      at : (x : Option ℕ) (b : Backing) → slot_of 128 (owner_of t) o i ≡ x → backing t o ≡ b → Some (Continue p) ≡ step_on x b i → Bare (owner_of t) o i × (backing t o ≡ Shadow p)
+      at (Some s) b u q k = cc
       at None Free u q k = absurd (none_some None refl (sym k))
-      at None (Root g) u q k = absurd (let z : ◌≡◌ {A = ℕ} 0 1 = cc in omega arith)
+      at None (Root g) u q k = cc
       at None (Shadow v) u q k = let z : Shadow v ≡ Shadow p = cc in (none_bare 128 (owner_of t) S.formed.frames o i u, q ∙ z)
 
 -- the walk so far: n objects were visited, and a walk from object o on is one from the top on
@@ -135,12 +135,12 @@ walk_some (at_root b h) = omega arith
 walk_some (below b h w) = omega (arith, walk_some w)
 
 module _ (t : Tables) (S : SoundTables t) (i top : ℕ) where
-  pub comes_more : (o n p : ℕ) → Comes t i top o n → Some (Below p) ≡ step_at t o i → Comes t i top p (n + 1)
+  pub comes_more : (o n p : ℕ) → Comes t i top o n → Some (Continue p) ≡ step_at t o i → Comes t i top p (n + 1)
   comes_more o n p c h =
       let b = step_below t S o i p h in
       (chain_live (chain_next (S.formed.chained o c.0).1 b.1).1, λ e m k q w. c.1 e (suc m) k (omega arith) (below b.0 b.1 w))
 
-  pub comes_end : (o n : ℕ) (e : End) → Comes t i top o n → Some (Ends e) ≡ step_at t o i → WalksIn t i top e n
+  pub comes_end : (o n : ℕ) (e : End) → Comes t i top o n → Some (Break e) ≡ step_at t o i → WalksIn t i top e n
   comes_end o n e c h = c.1 e 1 n (omega arith) (step_ends t S o i e h)
 
   -- no walk visits more than 256 objects
@@ -153,7 +153,7 @@ module _ (t : Tables) (S : SoundTables t) (i top : ℕ) where
       omega (arith, one, walk_few t S r top h i k w.0 u, count_le (in_use t) 256)
 
   -- a walk that has come to its end
-  pub comes_says : (r o n : ℕ) (e : End) (step : Step) → top_of t r ≡ Some top → Comes t i top o n → Some step ≡ step_at t o i → step ≡ Ends e → (true ≡ in_use t r) × (walk_end t r i ≡ Some e) × (walk_length t r i ≡ n) × (n ≤ records_used t)
+  pub comes_says : (r o n : ℕ) (e : End) (step : ControlFlow End ℕ) → top_of t r ≡ Some top → Comes t i top o n → Some step ≡ step_at t o i → step ≡ Break e → (true ≡ in_use t r) × (walk_end t r i ≡ Some e) × (walk_length t r i ≡ n) × (n ≤ records_used t)
   comes_says r o n e step h c at is =
       let w = comes_end o n e c (ap Some (sym is) ∙ at) in
       (sym (ap is_some h), end_is t S r top h i n e w, length_is t S r top h i n e w, walk_few t S r top h i n e w)

@@ -1,11 +1,11 @@
 -- Sound tables, and what a store's fields say of its tables.
-use Rattle.std.proofs.Common.{◌≡◌, ℕ, ◌+◌, ◌<◌, true, cond, not, get_or, replicate, is_some, Some, None, Option, sym, refl, ap, ◌∙◌, inl, inr, arith}
+use Rattle.std.proofs.Common.{◌≡◌, ℕ, ◌+◌, ◌<◌, true, not, replicate, is_some, Some, None, Option, sym, refl, ap, ◌∙◌, inl, inr, arith}
 use Rattle.std.proofs.lemmas.Bool.{both_ways, not-false, cases_Bool, cases_lt}
 use Rattle.chains.specs.declared.Backing.TheVariants.{Free}
 use Rattle.chains.specs.declared.Owner.{Owner}
 use Rattle.chains.specs.declared.End.{End}
 use Rattle.chains.specs.declared.End.TheVariants.{Frame}
-use Rattle.chains.specs.Rows.{live, own, bit}
+use Rattle.chains.specs.Rows.{live, bit}
 use Rattle.chains.specs.Walks.{slot_of}
 use Rattle.chains.proofs.Sums.{count_le, sum_change, sum_full}
 use Rattle.chains.proofs.Finds.{none_some, lowest_none, slot_is}
@@ -14,10 +14,10 @@ use Rattle.chains.proofs.Chains.{chain_ends, ends_chain, free_live}
 use Rattle.objects.specs.declared.store.Store.{Store}
 use Rattle.objects.specs.declared.tables.Tables.{Tables}
 use Rattle.objects.specs.View.{backing, owner_of, top_of, in_use, is_held, records_used, frames_held, walk_end, SoundTables}
-use Rattle.objects.specs.Says.{unused_record, KeepsOwners}
+use Rattle.objects.specs.Says.{unused_record, KeepsOwners, index_of}
 use Rattle.objects.specs.Kept.{ObjectsFew, RecordsFew, FramesFew, TopsLive, ChainsEnd, OwnersLive, OwnersApart, AllSettled}
 use Rattle.objects.proofs.Edits.{repeated}
-use Rattle.objects.proofs.Ends.{chain_few, used_top, walk_of, end_is, end_none}
+use Rattle.objects.proofs.Ends.{chain_few, used_top, walk_of, end_is, end_none, frame_fixes}
 use Rattle.objects.proofs.Effects.{not_some, dead_free, frame_held}
 
 -- a store's fields
@@ -64,25 +64,21 @@ sound_fields t S = record {
     apart s k (Some w) e h u = S.formed.apart s k w e (sym h ∙ e)
 
 -- tables with nothing in them
-pub empty_rows : (t : Tables) → t.records ≡ replicate 256 None → t.objects ≡ replicate 511 Free → t.frames ≡ replicate 128 None → ((k : ℕ) → top_of t k ≡ None) × ((o : ℕ) → backing t o ≡ Free) × ((s : ℕ) → owner_of t s ≡ None)
-empty_rows t records objects frames = (
-  λ k. ap (λ xs. get_or xs k None) records ∙ repeated 256 None k,
-  λ o. ap (λ xs. get_or xs o Free) objects ∙ repeated 511 Free o,
-  λ s. ap (λ xs. get_or xs s None) frames ∙ repeated 128 None s,
-)
+abbrev pub empty_tables : Tables
+empty_tables = record { records = replicate 256 None; objects = replicate 511 Free; frames = replicate 128 None }
 
-pub empty_sound : (t : Tables) → ((k : ℕ) → top_of t k ≡ None) → ((o : ℕ) → backing t o ≡ Free) → ((s : ℕ) → owner_of t s ≡ None) → SoundTables t
-empty_sound t records objects frames = record {
+pub empty_sound : SoundTables empty_tables
+empty_sound = record {
   formed = record {
-    objects = λ o l. objects o;
-    records = λ r l. records r;
-    frames = λ s l. frames s;
-    tops = λ r o h. absurd (none_some (top_of t r) (records r) h);
-    chained = λ o l. absurd (free_live (backing t o) (objects o) l);
-    owners = λ s w h. absurd (none_some (owner_of t s) (frames s) h);
-    apart = λ s k w h g. absurd (none_some (owner_of t s) (frames s) h);
+    objects = λ o l. repeated 511 Free o;
+    records = λ r l. repeated 256 None r;
+    frames = λ s l. repeated 128 None s;
+    tops = λ r o h. absurd (none_some (top_of empty_tables r) (repeated 256 None r) h);
+    chained = λ o l. absurd (free_live (backing empty_tables o) (repeated 511 Free o) l);
+    owners = λ s w h. absurd (none_some (owner_of empty_tables s) (repeated 128 None s) h);
+    apart = λ s k w h g. absurd (none_some (owner_of empty_tables s) (repeated 128 None s) h);
   };
-  settled = λ o l. absurd (free_live (backing t o) (objects o) l);
+  settled = λ o l. absurd (free_live (backing empty_tables o) (repeated 511 Free o) l);
 }
 
 -- the tables of every store are sound
@@ -93,9 +89,6 @@ store_sound x =
 -- a record is missing only if all are in use
 pub all_used : (t : Tables) → None ≡ unused_record t → records_used t ≡ 256
 all_used t h = sum_full 256 _ (λ k l. bit_true _ (not-false (in_use t k) (lowest_none 256 (λ k. not (in_use t k)) (sym h) k l)))
-
-pub all_used_copy : (t : Tables) (r : ℕ) (x : Option ℕ) → x ≡ cond (in_use t r) (unused_record t) None → x ≡ None → in_use t r ≡ true → records_used t ≡ 256
-all_used_copy t r x h e u = all_used t (sym e ∙ h ∙ ap (λ b. cond b (unused_record t) None) u)
 
 -- For a layer above: a record in use has a walk for each index
 pub walk_there : (t : Tables) → SoundTables t → (r i : ℕ) → in_use t r ≡ true → (e : End) × (walk_end t r i ≡ Some e)
@@ -121,5 +114,8 @@ used_count t t' n l h = sum_change 256 (λ k. bit (in_use t k)) (λ k. bit (in_u
 pub held_count : (t t' : Tables) (s : ℕ) → s < 128 → KeepsOwners t t' s → frames_held t' + bit (is_held t s) ≡ frames_held t + bit (is_held t' s)
 held_count t t' s l h = sum_change 128 (λ k. bit (is_held t k)) (λ k. bit (is_held t' k)) s l (λ k d. ap (λ x. bit (is_some x)) (h k d))
 
-pub frame_only : (x : Store) (o i s : ℕ) (r : Option ℕ) → r ≡ slot_of 128 (owner_of x.tables) o i → owner_of x.tables s ≡ Some (own o i) → r ≡ Some s
-frame_only x o i s r h g = h ∙ slot_is 128 (owner_of x.tables) (store_sound x).formed.frames (store_sound x).formed.apart o i s g
+pub frame_only : (x : Store) (w : Owner) (s : ℕ) (r : Option ℕ) → r ≡ slot_of 128 (owner_of x.tables) w.object w.index → owner_of x.tables s ≡ Some w → r ≡ Some s
+frame_only x w s r h g = h ∙ slot_is 128 (owner_of x.tables) (store_sound x).formed.frames (store_sound x).formed.apart w.object w.index s g
+
+pub owner_fixes : (x : Store) (s : ℕ) (r : Option Owner) → r ≡ owner_of x.tables s → (k i : ℕ) → walk_end x.tables k i ≡ Some (Frame s) → index_of r ≡ Some i
+owner_fixes x s r h k i g = ap index_of h ∙ frame_fixes x.tables (store_sound x) k i s g

@@ -1,4 +1,5 @@
 pub mod Edits
+pub mod Scans
 pub mod Settling
 pub mod Ends
 pub mod Effects

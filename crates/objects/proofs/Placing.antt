@@ -1,5 +1,5 @@
 -- Where a frame can be put, in terms of walks.
-use Rattle.std.proofs.Common.{◌≡◌, ℕ, ◌<◌, ◌≤◌, true, false, not, eqb, ltb, ◌⊎◌, Some, None, Option, sym, refl, ap, ◌∙◌, inl, inr, arith}
+use Rattle.std.proofs.Common.{◌≡◌, ℕ, ◌<◌, ◌≤◌, Bool, true, false, not, eqb, ltb, ◌⊎◌, Some, None, Option, sym, refl, ap, ◌∙◌, inl, inr, arith}
 use Rattle.std.proofs.lemmas.Bool.{eq-eqb, and_from, or_left, or_right, lt-ltb, not_from_true, not_from_false}
 use Rattle.chains.specs.declared.Backing.TheVariants.{Shadow}
 use Rattle.chains.specs.declared.Owner.{Owner}
@@ -11,7 +11,7 @@ use Rattle.chains.proofs.Finds.{slot_some}
 use Rattle.chains.proofs.Changes.{named, named_twice, shadowed}
 use Rattle.objects.specs.declared.tables.Tables.{Tables}
 use Rattle.objects.specs.View.{backing, owner_of, top_of, in_use, walk_end, weight_of, SoundTables}
-use Rattle.objects.specs.Says.{other_frame, placeable_on, placeable}
+use Rattle.objects.specs.Says.{other_frame, placeable_on, placeable, TakesOwn, TakesShared}
 use Rattle.objects.proofs.Ends.{WalksIn, source_frame, used_top, end_is, end_walk}
 
 -- a walk that ends at a frame of object o starts there, or comes by a shadow of o
@@ -44,7 +44,7 @@ module _ (t : Tables) (S : SoundTables t) where
   frame_same e = cc
 
   -- the frame at which the walk ends
-  pub placeable_end : (r i s : ℕ) → in_use t r ≡ true → s < 128 → ((k : ℕ) → walk_end t r i ≡ Some (Frame k) → k ≡ s) → placeable t r i s ≡ true
+  placeable_end : (r i s : ℕ) → in_use t r ≡ true → s < 128 → ((k : ℕ) → walk_end t r i ≡ Some (Frame k) → k ≡ s) → placeable t r i s ≡ true
   placeable_end r i s u l only = let x = used_top t r u in placeable_top r x.0 i s x.1 l (inr (at x.0 x.1 (slot_of 128 (owner_of t) x.0 i) refl))
     where
       at : (o : ℕ) → top_of t r ≡ Some o → (y : Option ℕ) → slot_of 128 (owner_of t) o i ≡ y → other_frame (slot_of 128 (owner_of t) o i) s ≡ false
@@ -52,7 +52,7 @@ module _ (t : Tables) (S : SoundTables t) where
       at o top (Some k) e = ap (λ z. other_frame z s) e ∙ not_from_true (eqb k s) (eq-eqb k s (only k (top_end r o i k top e)))
 
   -- any frame, where another record's walk ends at the same frame
-  pub placeable_both : (r k i s f : ℕ) → (k ≡ r → ⊥) → in_use t r ≡ true → in_use t k ≡ true → s < 128 → walk_end t r i ≡ Some (Frame f) → walk_end t k i ≡ Some (Frame f) → placeable t r i s ≡ true
+  placeable_both : (r k i s f : ℕ) → (k ≡ r → ⊥) → in_use t r ≡ true → in_use t k ≡ true → s < 128 → walk_end t r i ≡ Some (Frame f) → walk_end t k i ≡ Some (Frame f) → placeable t r i s ≡ true
   placeable_both r k i s f d u v l h g =
       let x = used_top t r u in
       let y = used_top t k v in
@@ -71,3 +71,7 @@ module _ (t : Tables) (S : SoundTables t) where
       at o top a other n w (Some j) e =
           let q : j ≡ f = frame_same (sym (top_end r o i j top e) ∙ h) in
           inl (heavy o a top other (through t w f o refl (ap (owner_of t) (sym q) ∙ slot_some 128 (owner_of t) o i j e)))
+
+  -- what an answer that says whether it can be put there promises
+  pub takes : (r i s : ℕ) (b : Bool) → b ≡ placeable t r i s → TakesOwn t r i s b × TakesShared t r i s b
+  takes r i s b h = (λ u l only. h ∙ placeable_end r i s u l only, λ k f d u v l e g. h ∙ placeable_both r k i s f d u v l e g)

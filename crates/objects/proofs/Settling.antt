@@ -1,5 +1,5 @@
 -- Freeing and collapsing, on the tables.
-use Rattle.std.proofs.Common.{◌≡◌, ℕ, ◌<◌, ◌≤◌, true, length, get_or, set, Some, None, sym, refl, ap, ◌∙◌, subst, arith}
+use Rattle.std.proofs.Common.{◌≡◌, ℕ, ◌<◌, ◌≤◌, true, length, get_or, set, is_some, Some, None, Option, sym, refl, ap, ◌∙◌, subst, arith}
 use Rattle.std.proofs.lemmas.List.{length-set}
 use Rattle.std.proofs.lemmas.Bool.{both_ways, eq-eqb}
 use Rattle.chains.specs.declared.Origin.{Origin}
@@ -24,20 +24,21 @@ module _ (t : Tables) (formed : FormedTables t) where
   shadowed_live q o h = chain_live (chain_next (formed.chained q (ap live h)).1 h).1
 
   -- what the search for the upper object finds
-  pub upper_is : (o q : ℕ) → Some q ≡ lowest 511 (λ k. is_shadowing o (backing t k)) → (q < 511) × (backing t q ≡ Shadow o) × (o < 511)
+  pub upper_is : (o q : ℕ) → lowest 511 (λ k. is_shadowing o (backing t k)) ≡ Some q → (q < 511) × (backing t q ≡ Shadow o) × (o < 511)
   upper_is o q h =
-      let x = lowest_some 511 (λ k. is_shadowing o (backing t k)) q (sym h) in
+      let x = lowest_some 511 (λ k. is_shadowing o (backing t k)) q h in
       let s = shadows_true o (backing t q) x.1 in
       (x.0, s, object_below o (shadowed_live q o s))
 
-  pub upper_there : (o : ℕ) → weight_of t o ≡ 1 → None ≡ lowest 511 (λ k. is_shadowing o (backing t k)) → ⊥
-  upper_there o w h =
+  pub upper_there : (o : ℕ) → weight_of t o ≡ 1 → (r : Option ℕ) → r ≡ lowest 511 (λ k. is_shadowing o (backing t k)) → is_some r ≡ true
+  upper_there o w (Some q) h = refl
+  upper_there o w None h =
       let x = some_shadow 511 256 128 (backing t) (top_of t) formed.objects formed.records o w in
-      both_ways (is_shadowing o (backing t x.0)) (lowest_none 511 (λ k. is_shadowing o (backing t k)) (sym h) x.0 x.1) (ap (is_shadowing o) x.2 ∙ eq-eqb o o refl)
+      absurd (both_ways (is_shadowing o (backing t x.0)) (lowest_none 511 (λ k. is_shadowing o (backing t k)) (sym h) x.0 x.1) (ap (is_shadowing o) x.2 ∙ eq-eqb o o refl))
 
   module _ (o : ℕ) (others : OthersSettled t o) where
     module _ (t' : Tables) (long : length t.objects ≡ 511) (records : t'.records ≡ t.records) where
-      pub settle_collapse : (q : ℕ) → weight_of t o ≡ 1 → Some q ≡ lowest 511 (λ k. is_shadowing o (backing t k)) → t'.objects ≡ set (set t.objects o Free) q (backing t o) → ((s : ℕ) → owner_of t' s ≡ lifted 128 (owner_of t) o q (owner_of t s)) → SettledFrom t t'
+      pub settle_collapse : (q : ℕ) → weight_of t o ≡ 1 → lowest 511 (λ k. is_shadowing o (backing t k)) ≡ Some q → t'.objects ≡ set (set t.objects o Free) q (backing t o) → ((s : ℕ) → owner_of t' s ≡ lifted 128 (owner_of t) o q (owner_of t s)) → SettledFrom t t'
       settle_collapse q one h objects frames =
           let x = upper_is o q h in
           let lo : o < length t.objects = omega (arith, x.2) in

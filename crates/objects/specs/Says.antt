@@ -1,15 +1,16 @@
 -- What the calls promise, in terms of walks: t are the tables before, t' those after.
 use Rattle.std.specs.Prelude.{◌≡◌, ℕ, ◌<◌, Bool, true, false, not, ◌&&◌, ◌||◌, ◌⊎◌, Some, None, Option, ◌==◌, ◌≢◌, nat_lt}
+use Rattle.std.specs.declared.ops.ControlFlow.{ControlFlow}
+use Rattle.std.specs.declared.ops.ControlFlow.TheVariants.{Continue, Break}
 use Rattle.chains.specs.declared.Origin.{Origin}
 use Rattle.chains.specs.declared.Backing.{Backing}
 use Rattle.chains.specs.declared.Backing.TheVariants.{Free, Root, Shadow}
 use Rattle.chains.specs.declared.Owner.{Owner}
+use Rattle.chains.specs.declared.End.{End}
 use Rattle.chains.specs.declared.End.TheVariants.{Frame}
 use Rattle.chains.specs.Rows.{source}
 use Rattle.chains.specs.Walks.{lowest, slot_of}
 use Rattle.objects.specs.declared.tables.Tables.{Tables}
-use Rattle.objects.specs.declared.tables.Step.{Step}
-use Rattle.objects.specs.declared.tables.Step.TheVariants.{Ends, Below}
 use Rattle.objects.specs.View.{backing, owner_of, top_of, in_use, is_held, walk_end, walk_length, weight_of}
 
 -- the record that a call gives: the lowest that is not in use
@@ -95,13 +96,13 @@ TakesOwn t r i s b = in_use t r ≡ true → s < 128 → ((k : ℕ) → walk_end
 abbrev pub TakesShared : Tables → ℕ → ℕ → ℕ → Bool → Type 0
 TakesShared t r i s b = (k f : ℕ) → (k ≢ r) → in_use t r ≡ true → in_use t k ≡ true → s < 128 → walk_end t r i ≡ Some (Frame f) → walk_end t k i ≡ Some (Frame f) → b ≡ true
 
--- what a walk for index i does at object o
-abbrev pub step_on : Option ℕ → Backing → ℕ → Option Step
-step_on (Some s) b i = Some (Ends (Frame s))
+-- what a walk for index i does at object o: it ends, or goes on to the object below
+abbrev pub step_on : Option ℕ → Backing → ℕ → Option (ControlFlow End ℕ)
+step_on (Some s) b i = Some (Break (Frame s))
 step_on None Free i = None
-step_on None (Root g) i = Some (Ends (source g i))
-step_on None (Shadow p) i = Some (Below p)
+step_on None (Root g) i = Some (Break (source g i))
+step_on None (Shadow p) i = Some (Continue p)
 
 -- by the frame and the row that it finds there
-abbrev pub step_at : Tables → ℕ → ℕ → Option Step
+abbrev pub step_at : Tables → ℕ → ℕ → Option (ControlFlow End ℕ)
 step_at t o i = step_on (slot_of 128 (owner_of t) o i) (backing t o) i

@@ -6,10 +6,11 @@ ghost use Rattle.chains.specs.Walks.{lowest, slot_of};
 ghost use Rattle.objects.specs.View.{backing, owner_of, in_use, is_held, records_used, frames_held, walk_end, walk_length};
 ghost use Rattle.objects.specs.Says.{unused_record, UsesMore, UsesLess, UsesSame, Starts, Copies, KeepsWalks, KeepsOthers, KeepsApart, KeepsWithout, KeepsOwners, FreesOnly, HoldsReached, index_of, placeable, TakesOwn, TakesShared};
 
-use crate::scan::{frame_of, held, owner_at, used, vacant};
+use crate::scan::{frame_of, free, rows_in_use, unused};
 use crate::store::Store;
 use crate::tables::Tables;
-use chains::{Origin, Owner, Walk};
+use chains::{Backing, Origin, Owner, Walk};
+use std::ops::ControlFlow;
 
 impl Store {
     // No record in use, no object live, no frame held.
@@ -19,7 +20,11 @@ impl Store {
         ensures frames { (s : ℕ) → owner_of result.tables s ≡ None }
     {
         Store {
-            tables: Tables::empty(),
+            tables: Tables {
+                records: [None; 256],
+                objects: [Backing::Free; 511],
+                frames: [None; 128],
+            },
         }
     }
 
@@ -27,29 +32,33 @@ impl Store {
     pub fn in_use(&self, sharing: u8) -> bool
         ensures { result ≡ in_use self.now.tables sharing }
     {
-        let top = self.tables.records[sharing as usize];
-        top.is_some()
+        self.tables.records[sharing as usize].is_some()
     }
 
     // How many records are in use.
     pub fn records_in_use(&self) -> usize
         ensures { result ≡ records_used self.now.tables }
     {
-        used(&self.tables.records)
+        rows_in_use(&self.tables.records)
     }
 
     // How many frames are held.
     pub fn held(&self) -> usize
         ensures { result ≡ frames_held self.now.tables }
     {
-        held(&self.tables.frames)
+        rows_in_use(&self.tables.frames)
     }
 
     // The lowest frame below the limit that is not held.
     pub fn free_slot(&self, limit: u8) -> Option<u8>
         ensures { result ≡ lowest (min limit 128) (λ s. not (is_held self.now.tables s)) }
     {
-        vacant(&self.tables.frames, limit)
+        self.tables
+            .frames
+            .iter()
+            .take(limit as usize)
+            .position(|owner| owner.is_none())
+            .map(|slot| slot as u8)
     }
 
     // The owner of a held frame.
@@ -57,29 +66,34 @@ impl Store {
         ensures answer { result ≡ owner_of self.now.tables slot }
         ensures fixes { (k i : ℕ) → walk_end self.now.tables k i ≡ Some (Frame slot) → index_of result ≡ Some i }
     {
-        if slot >= 128 {
-            return None;
-        }
-        owner_at(&self.tables.frames, slot)
+        *self.tables.frames.get(slot as usize)?
     }
 
-    // The frame that belongs to the object at the index.
-    pub fn frame_at(&self, object: u16, index: u16) -> Option<u8>
-        ensures answer { result ≡ slot_of 128 (owner_of self.now.tables) object index }
-        ensures only { (s : ℕ) → owner_of self.now.tables s ≡ Some (own object index) → result ≡ Some s }
+    // The frame that belongs to the owner.
+    pub fn frame_at(&self, owner: Owner) -> Option<u8>
+        ensures answer { result ≡ slot_of 128 (owner_of self.now.tables) owner.object owner.index }
+        ensures only { (s : ℕ) → owner_of self.now.tables s ≡ Some owner → result ≡ Some s }
     {
-        frame_of(&self.tables.frames, object, index)
+        frame_of(&self.tables.frames, owner)
     }
 
     // The walk for a record and an index: where it ends, and the number of objects that it visits. None if the record
-    // is not in use.
+    // is not in use. The two stay apart: a caller has them apart, and would make a pair for this call or `put` alone.
     pub fn walk(&self, sharing: u8, index: u16) -> Option<Walk>
         ensures used { is_some result ≡ in_use self.now.tables sharing }
         ensures end { IfSome result (λ w. walk_end self.now.tables sharing index ≡ Some w.end) }
         ensures length { IfSome result (λ w. walk_length self.now.tables sharing index ≡ w.length) }
         ensures short { IfSome result (λ w. w.length ≤ records_used self.now.tables) }
     {
-        self.tables.walk(sharing, index)
+        let mut object = self.tables.records[sharing as usize]?;
+        // `length` is no index: it is the number of objects visited, a part of the answer.
+        for length in 1..257u16 {
+            match self.tables.step(Owner { object, index })? {
+                ControlFlow::Break(end) => return Some(Walk { end, length }),
+                ControlFlow::Continue(lower) => object = lower,
+            }
+        }
+        None
     }
 
     // A new record over a new root object. None if all records are in use.
@@ -92,7 +106,12 @@ impl Store {
         ensures keeps { KeepsWalks self.old.tables self.new.tables }
         ensures frames { self.new.tables.frames ≡ self.old.tables.frames }
     {
-        self.tables.open(origin)
+        let sharing = unused(&self.tables.records)?;
+        // One is free: fewer than 256 records need fewer than 511 objects.
+        let object = free(&self.tables.objects).unwrap();
+        self.tables.objects[object as usize] = Backing::Root(origin);
+        self.tables.records[sharing as usize] = Some(object);
+        Some(sharing)
     }
 
     // A new record on the top of a record in use. None if that is not in use, or all are.
@@ -105,7 +124,10 @@ impl Store {
         ensures keeps { KeepsWalks self.old.tables self.new.tables }
         ensures frames { self.new.tables.frames ≡ self.old.tables.frames }
     {
-        self.tables.copy(sharing)
+        let object = self.tables.records[sharing as usize]?;
+        let fresh = unused(&self.tables.records)?;
+        self.tables.records[fresh as usize] = Some(object);
+        Some(fresh)
     }
 
     // Closes a record, and frees or collapses what it leaves behind. False if it is not in use.
@@ -117,7 +139,12 @@ impl Store {
         ensures frees { FreesOnly self.old.tables self.new.tables }
         ensures reached { HoldsReached self.old.tables self.new.tables sharing }
     {
-        self.tables.close(sharing)
+        let Some(object) = self.tables.records[sharing as usize] else {
+            return false;
+        };
+        self.tables.records[sharing as usize] = None;
+        self.tables.forget(object);
+        true
     }
 
     // The place for a write: the frame comes to belong to the record's top at the index, whether it was free, stays or
@@ -134,7 +161,29 @@ impl Store {
         ensures others { KeepsApart self.old.tables self.new.tables sharing index slot }
         ensures slots { KeepsOwners self.old.tables self.new.tables slot }
     {
-        self.tables.put(sharing, index, slot)
+        let Some(object) = self.tables.records[sharing as usize] else {
+            return false;
+        };
+        if slot >= 128 {
+            return false;
+        }
+        if self.tables.weight(object) > 2 {
+            // One is free: all 511 are live only while no top is shared.
+            let shadow = free(&self.tables.objects).unwrap();
+            self.tables.objects[shadow as usize] = Backing::Shadow(object);
+            self.tables.records[sharing as usize] = Some(shadow);
+            self.tables.frames[slot as usize] = Some(Owner {
+                object: shadow,
+                index,
+            });
+            return true;
+        }
+        let owner = Owner { object, index };
+        if frame_of(&self.tables.frames, owner).is_some_and(|found| found != slot) {
+            return false;
+        }
+        self.tables.frames[slot as usize] = Some(owner);
+        true
     }
 
     // Frees a frame. False if it is not held.
@@ -146,6 +195,10 @@ impl Store {
         ensures slots { KeepsOwners self.old.tables self.new.tables slot }
         ensures keeps { KeepsWithout self.old.tables self.new.tables slot }
     {
-        self.tables.release(slot)
+        if self.owner(slot).is_none() {
+            return false;
+        }
+        self.tables.frames[slot as usize] = None;
+        true
     }
 }

@@ -5,22 +5,6 @@ ghost use Rattle.chains.specs.Walks.{dropped, lifted};
 use crate::scan::frame_of;
 use chains::Owner;
 
-// A frame's owner once the object is freed.
-fn without(owner: Option<Owner>, object: u16) -> Option<Owner>
-    ensures { result ≡ dropped object owner }
-{
-    match owner {
-        None => None,
-        Some(holder) => {
-            if holder.object == object {
-                None
-            } else {
-                Some(holder)
-            }
-        }
-    }
-}
-
 // A frame's owner once `lower` has collapsed into `upper`, which has the frames `before`.
 fn risen(
     before: &[Option<Owner>; 128],
@@ -30,30 +14,23 @@ fn risen(
 ) -> Option<Owner>
     ensures { result ≡ lifted 128 (λ s. slice_index_or before.now s None) lower upper owner }
 {
-    match owner {
-        None => None,
-        Some(holder) => {
-            if holder.object != lower {
-                Some(holder)
-            } else if frame_of(before, upper, holder.index).is_some() {
-                None
-            } else {
-                Some(Owner {
-                    object: upper,
-                    index: holder.index,
-                })
-            }
-        }
+    let holder = owner?;
+    if holder.object != lower {
+        return Some(holder);
     }
+    let heir = Owner {
+        object: upper,
+        ..holder
+    };
+    frame_of(before, heir).is_none().then_some(heir)
 }
 
 // Frees the frames of an object.
 pub fn drop_frames(frames: &mut [Option<Owner>; 128], object: u16)
     ensures { (s : ℕ) → slice_index_or frames.new s None ≡ dropped object (slice_index_or frames.old s None) }
 {
-    for i in 0..128usize {
-        let owner = frames[i];
-        frames[i] = without(owner, object);
+    for owner in frames {
+        *owner = owner.filter(|holder| holder.object != object);
     }
 }
 
@@ -62,8 +39,7 @@ pub fn lift_frames(frames: &mut [Option<Owner>; 128], lower: u16, upper: u16)
     ensures { (s : ℕ) → slice_index_or frames.new s None ≡ lifted 128 (λ k. slice_index_or frames.old k None) lower upper (slice_index_or frames.old s None) }
 {
     let before = *frames;
-    for i in 0..128usize {
-        let owner = frames[i];
-        frames[i] = risen(&before, owner, lower, upper);
+    for owner in frames {
+        *owner = risen(&before, *owner, lower, upper);
     }
 }

@@ -2,8 +2,6 @@
 #![tactic(auto)]
 
 mod calls;
-mod change;
-mod edit;
 mod frames;
 mod scan;
 mod settle;

@@ -46,12 +46,11 @@ impl Tables {
         requires referred { 1 ≤ weight_of self.old object }
         ensures { SettledFrom self.old self.new }
     {
-        if !self.is_single(object) {
+        if self.weight(object) != 1 {
             return;
         }
-        if let Some(shadow) = upper(&self.objects, object) {
-            self.collapse(object, shadow);
-        }
+        let shadow = upper(&self.objects, object).unwrap();
+        self.collapse(object, shadow);
     }
 
     // Frees an object that has lost its last reference, or settles it; and settles what a freed one shadowed.
@@ -61,7 +60,7 @@ impl Tables {
         requires live { live (backing self.old object) ≡ true }
         ensures { SettledFrom self.old self.new }
     {
-        if !self.is_unused(object) {
+        if self.weight(object) != 0 {
             self.settle(object);
             return;
         }

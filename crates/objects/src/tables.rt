@@ -1,7 +1,11 @@
 // The tables of a store.
-use chains::{Backing, End, Owner};
+ghost use Rattle.std.specs.Prelude.{◌≡◌};
+ghost use Rattle.objects.specs.View.{weight_of};
 
-// The top of each record in use, the row of each object, the owner of each held frame.
+use chains::{Backing, Owner};
+
+// The top of each record in use, the row of each object, the owner of each held frame. Arrays of fixed size, and numbers
+// for links, since nothing here is on a heap.
 #[derive(Clone, Copy)]
 pub struct Tables {
     pub(crate) records: [Option<u16>; 256],
@@ -9,9 +13,21 @@ pub struct Tables {
     pub(crate) frames: [Option<Owner>; 128],
 }
 
-// What a walk does at an object: it ends, or goes on to the object below.
-#[derive(Clone, Copy)]
-pub(crate) enum Step {
-    Ends(End),
-    Below(u16),
+impl Tables {
+    // Twice the records that name the object, and the objects that shadow it.
+    pub(crate) fn weight(&self, object: u16) -> usize
+        ensures { result ≡ weight_of self.now object }
+    {
+        let names = self
+            .records
+            .iter()
+            .filter(|top| **top == Some(object))
+            .count();
+        let shadows = self
+            .objects
+            .iter()
+            .filter(|row| **row == Backing::Shadow(object))
+            .count();
+        2 * names + shadows
+    }
 }

@@ -7,48 +7,14 @@ mod tests {
     use objects::Store;
     use std::test::Fail;
 
-    // Whether the walk ends at the frame.
-    fn at_frame(store: &Store, sharing: u8, index: u16, slot: u8) -> bool {
-        let Some(walk) = store.walk(sharing, index) else {
-            return false;
-        };
-        match walk.end {
-            End::Frame(end) => end == slot,
-            End::Zeros => false,
-            End::Page { object: _, page: _ } => false,
-        }
-    }
-
-    // Whether it ends at the page.
-    fn at_page(store: &Store, sharing: u8, index: u16, object: u16, page: u32) -> bool {
-        let Some(walk) = store.walk(sharing, index) else {
-            return false;
-        };
-        match walk.end {
-            End::Frame(_) => false,
-            End::Zeros => false,
-            End::Page { object: m, page: q } => m == object && q == page,
-        }
-    }
-
-    // Whether it ends at zeros.
-    fn at_zeros(store: &Store, sharing: u8, index: u16) -> bool {
-        let Some(walk) = store.walk(sharing, index) else {
-            return false;
-        };
-        match walk.end {
-            End::Frame(_) => false,
-            End::Zeros => true,
-            End::Page { object: _, page: _ } => false,
-        }
+    // Where the walk ends.
+    fn end(store: &Store, sharing: u8, index: u16) -> Option<End> {
+        store.walk(sharing, index).map(|walk| walk.end)
     }
 
     // How many objects it visits, or 0.
     fn visits(store: &Store, sharing: u8, index: u16) -> u16 {
-        match store.walk(sharing, index) {
-            Some(walk) => walk.length,
-            None => 0,
-        }
+        store.walk(sharing, index).map_or(0, |walk| walk.length)
     }
 
     // Each generation copies the last, writes one page and closes the last: all objects collapse into one.
@@ -68,12 +34,18 @@ mod tests {
             last = next;
         }
         for g in 0..120u8 {
-            assert!(rt; at_frame(&store, last, g as u16, g));
+            assert_eq!(rt; end(&store, last, g as u16), Some(End::Frame(g)));
         }
-        assert!(rt; at_page(&store, last, 4095, 7, 69095));
-        assert!(rt; visits(&store, last, 4095) == 1);
-        assert!(rt; store.held() == 120);
-        assert!(rt; store.records_in_use() == 1);
+        assert_eq!(rt;
+            end(&store, last, 4095),
+            Some(End::Page {
+                object: 7,
+                page: 69095
+            })
+        );
+        assert_eq!(rt; visits(&store, last, 4095), 1);
+        assert_eq!(rt; store.held(), 120);
+        assert_eq!(rt; store.records_in_use(), 1);
         Ok(())
     }
 
@@ -84,22 +56,22 @@ mod tests {
         let mut last = store.open(Origin::Zeros).ok_or("full")?;
         for g in 1..41u8 {
             last = store.copy(last).ok_or("full")?;
-            assert!(rt; last == g);
+            assert_eq!(rt; last, g);
             assert!(rt; store.put(last, g as u16 % 8, g));
         }
-        assert!(rt; visits(&store, 40, 100) == 41);
+        assert_eq!(rt; visits(&store, 40, 100), 41);
         for g in 0..20u8 {
             assert!(rt; store.close(g));
             assert!(rt; store.close(40 - g));
         }
-        assert!(rt; store.records_in_use() == 1);
-        assert!(rt; visits(&store, 20, 100) == 1);
-        assert!(rt; at_zeros(&store, 20, 100));
+        assert_eq!(rt; store.records_in_use(), 1);
+        assert_eq!(rt; visits(&store, 20, 100), 1);
+        assert_eq!(rt; end(&store, 20, 100), Some(End::Zeros));
         // Page 0 was last written by record 16, page 4 by record 20, page 5 by record 13.
-        assert!(rt; at_frame(&store, 20, 0, 16));
-        assert!(rt; at_frame(&store, 20, 4, 20));
-        assert!(rt; at_frame(&store, 20, 5, 13));
-        assert!(rt; store.held() == 8);
+        assert_eq!(rt; end(&store, 20, 0), Some(End::Frame(16)));
+        assert_eq!(rt; end(&store, 20, 4), Some(End::Frame(20)));
+        assert_eq!(rt; end(&store, 20, 5), Some(End::Frame(13)));
+        assert_eq!(rt; store.held(), 8);
         Ok(())
     }
 
@@ -110,15 +82,15 @@ mod tests {
         assert_eq!(rt; store.open(Origin::Zeros), Some(0));
         for k in 1..256u16 {
             let fresh = store.copy(0).ok_or("full")?;
-            assert!(rt; fresh as u16 == k);
+            assert_eq!(rt; fresh as u16, k);
             assert!(rt; store.put(fresh, 3, 0));
             assert!(rt; store.put(0, 3, 0));
         }
-        assert!(rt; store.records_in_use() == 256);
+        assert_eq!(rt; store.records_in_use(), 256);
         assert_eq!(rt; store.open(Origin::Zeros), None);
         assert_eq!(rt; store.copy(0), None);
-        assert!(rt; at_frame(&store, 0, 3, 0));
-        assert!(rt; visits(&store, 0, 4) == 256);
+        assert_eq!(rt; end(&store, 0, 3), Some(End::Frame(0)));
+        assert_eq!(rt; visits(&store, 0, 4), 256);
         assert!(rt; store.close(77));
         assert!(rt; !store.close(77));
         assert_eq!(rt; store.copy(77), None);
@@ -136,17 +108,17 @@ mod tests {
             assert_eq!(rt; store.free_slot(128), Some(s));
             assert!(rt; store.put(sharing, 4095 - s as u16, s));
         }
-        assert!(rt; store.held() == 128);
+        assert_eq!(rt; store.held(), 128);
         assert_eq!(rt; store.free_slot(128), None);
         assert!(rt; !store.put(sharing, 0, 128));
         assert!(rt; !store.put(sharing, 4095, 1));
         assert!(rt; store.put(sharing, 4095, 0));
         assert!(rt; store.release(5));
         assert!(rt; !store.release(5));
-        assert!(rt; at_zeros(&store, sharing, 4090));
+        assert_eq!(rt; end(&store, sharing, 4090), Some(End::Zeros));
         assert_eq!(rt; store.free_slot(5), None);
         assert_eq!(rt; store.free_slot(6), Some(5));
-        assert!(rt; store.held() == 127);
+        assert_eq!(rt; store.held(), 127);
         Ok(())
     }
 
@@ -157,15 +129,15 @@ mod tests {
         let first = store.open(Origin::Zeros).ok_or("full")?;
         assert!(rt; store.put(first, 9, 2));
         let second = store.copy(first).ok_or("full")?;
-        assert!(rt; at_frame(&store, second, 9, 2));
+        assert_eq!(rt; end(&store, second, 9), Some(End::Frame(2)));
         assert!(rt; store.put(second, 9, 2));
-        assert!(rt; at_frame(&store, second, 9, 2));
-        assert!(rt; at_zeros(&store, first, 9));
+        assert_eq!(rt; end(&store, second, 9), Some(End::Frame(2)));
+        assert_eq!(rt; end(&store, first, 9), Some(End::Zeros));
         let owner = store.owner(2).ok_or("free")?;
-        assert!(rt; owner.index == 9);
-        assert_eq!(rt; store.frame_at(owner.object, 9), Some(2));
+        assert_eq!(rt; owner.index, 9);
+        assert_eq!(rt; store.frame_at(owner), Some(2));
         assert!(rt; store.close(second));
-        assert!(rt; store.held() == 0);
+        assert_eq!(rt; store.held(), 0);
         Ok(())
     }
 }

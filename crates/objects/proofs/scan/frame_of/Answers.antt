@@ -1,9 +1,9 @@
-use Rattle.std.proofs.Common.{sym, ◌∙◌, arith}
-use Rattle.chains.proofs.Finds.{lowest_is, lowest_not}
+use Rattle.std.proofs.Common.{◌≡◌, Some, None, rules, tests, ◌∙◌}
+use Rattle.chains.specs.Rows.{is_owned_by}
+use Rattle.objects.proofs.Scans.{found, same_owner, is_owner}
 use Rattle.objects.proofs.scan.frame_of.Goals as goal
 
-pub returns-then-is_owned : goal.returns-then-is_owned
-returns-then-is_owned c = sym (lowest_is _ _ c.loop-i.i (omega arith) (sym c.is_owned.ensures ∙ c.if-is_owned.true) c.loop-i.invariant)
-
 pub returns : goal.returns
-returns c = sym (lowest_not _ _ (λ k l. c.loop-i.invariant k (omega arith)))
+returns c =
+    let k : c.map.result ≡ c.position.result = search rules in
+    k ∙ found c.position.result None (λ x. same_owner x (Some c.args.owner)) (is_owned_by c.args.owner.object c.args.owner.index) (is_owner c.args.owner) c.args.frames.now 128 c.told-frames c.position.ensures.ran (cc) (λ x b t k. search (rules, tests))

@@ -1,9 +1,8 @@
-use Rattle.std.proofs.Common.{sym, arith, rules}
-use Rattle.chains.proofs.Finds.{lowest_is, lowest_not}
+use Rattle.std.proofs.Common.{◌≡◌, not, is_some, None, refl, rules, tests, ◌∙◌}
+use Rattle.objects.proofs.Scans.{found}
 use Rattle.objects.proofs.scan.unused.Goals as goal
 
-pub returns-then-is_none : goal.returns-then-is_none
-returns-then-is_none c = sym (lowest_is _ _ c.loop-i.i (omega arith) (search rules) c.loop-i.invariant)
-
 pub returns : goal.returns
-returns c = sym (lowest_not _ _ (λ k l. c.loop-i.invariant k (omega arith)))
+returns c =
+    let k : c.map.result ≡ c.position.result = search rules in
+    k ∙ found c.position.result None (λ x. not (is_some x)) (λ x. not (is_some x)) (λ x. refl) c.args.records.now 256 c.told-records c.position.ensures.ran (cc) (λ x b t k. search (rules, tests))

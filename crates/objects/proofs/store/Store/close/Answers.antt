@@ -1,8 +1,19 @@
+use Rattle.std.proofs.Common.{rules}
+use Rattle.objects.proofs.Effects.{frame_held, close_formed, close_sound, close_keeps, close_reached}
 use Rattle.objects.proofs.Keeping.{store_sound, sound_fields}
 use Rattle.objects.proofs.store.Store.close.Goals as goal
 
-pub close-requires : goal.close-requires
-close-requires c = store_sound c.args.self.now
+pub returns-in_default-clause-reached : goal.returns-in_default-clause-reached
+returns-in_default-clause-reached c = λ k i s u d h. frame_held c.args.self.now.tables (store_sound c.args.self.now) k i s h
+
+pub forget-requires-clause-formed : goal.forget-requires-clause-formed
+forget-requires-clause-formed c = close_formed c.args.self.now.tables (store_sound c.args.self.now) c.args.sharing c.in-Some.object (search rules) c.in-Some.is
 
 pub invariant_of-self : goal.invariant_of-self
-invariant_of-self c = sound_fields c.close.new.self c.close.ensures.sound
+invariant_of-self c = sound_fields c.forget.new.self (close_sound c.args.self.now.tables (store_sound c.args.self.now) c.args.sharing c.in-Some.object (search rules) c.in-Some.is c.forget.new.self c.forget.ensures)
+
+pub returns-clause-keeps : goal.returns-clause-keeps
+returns-clause-keeps c = close_keeps c.args.self.now.tables (store_sound c.args.self.now) c.args.sharing c.in-Some.object (search rules) c.in-Some.is c.forget.new.self c.forget.ensures
+
+pub returns-clause-reached : goal.returns-clause-reached
+returns-clause-reached c = close_reached c.args.self.now.tables (store_sound c.args.self.now) c.args.sharing c.in-Some.object (search rules) c.in-Some.is c.forget.new.self c.forget.ensures

@@ -1,19 +1,19 @@
-use Rattle.objects.proofs.Keeping.{store_sound, sound_fields, all_used_copy}
+use Rattle.std.proofs.Common.{rules}
+use Rattle.objects.proofs.Effects.{copy_sound, copy_copies, copy_keeps}
+use Rattle.objects.proofs.Keeping.{store_sound, sound_fields, all_used}
 use Rattle.objects.proofs.store.Store.copy.Goals as goal
 
-pub copy-requires : goal.copy-requires
-copy-requires c = store_sound c.args.self.now
+pub returns-in_err-fresh-clause-full : goal.returns-in_err-fresh-clause-full
+returns-in_err-fresh-clause-full c = λ e u. all_used c.args.self.now.tables c.in_err-fresh.ensures
 
 pub invariant_of-self : goal.invariant_of-self
-invariant_of-self c = sound_fields c.copy.new.self c.copy.ensures.sound
+invariant_of-self c =
+    sound_fields _ (copy_sound c.args.self.now.tables (store_sound c.args.self.now) c.args.sharing c.in_ok-object.object c.in_ok-fresh.fresh (search rules) c.in_ok-object.was c.in_ok-fresh.ensures)
 
-pub returns : goal.returns
-returns c = record {
-  answer = c.copy.ensures.answer;
-  full = all_used_copy c.args.self.now.tables c.args.sharing c.copy.result c.copy.ensures.answer;
-  refused = c.copy.ensures.refused;
-  uses = c.copy.ensures.uses;
-  copies = c.copy.ensures.copies;
-  keeps = c.copy.ensures.keeps;
-  frames = c.copy.ensures.frames;
-}
+pub returns-clause-copies : goal.returns-clause-copies
+returns-clause-copies c =
+    copy_copies c.args.self.now.tables (store_sound c.args.self.now) c.args.sharing c.in_ok-object.object c.in_ok-fresh.fresh (search rules) c.in_ok-object.was c.in_ok-fresh.ensures
+
+pub returns-clause-keeps : goal.returns-clause-keeps
+returns-clause-keeps c =
+    copy_keeps c.args.self.now.tables (store_sound c.args.self.now) c.args.sharing c.in_ok-object.object c.in_ok-fresh.fresh (search rules) c.in_ok-object.was c.in_ok-fresh.ensures

@@ -1,14 +1,16 @@
-use Rattle.std.proofs.Common.{is_some, ap}
+use Rattle.std.proofs.Common.{is_some, None, ap}
+use Rattle.chains.specs.declared.Backing.TheVariants.{Free}
 use Rattle.chains.specs.Rows.{live}
-use Rattle.objects.proofs.Keeping.{empty_rows, empty_sound, sound_fields}
+use Rattle.objects.proofs.Edits.{repeated}
+use Rattle.objects.proofs.Keeping.{empty_tables, empty_sound, sound_fields}
 use Rattle.objects.proofs.store.Store.new.Goals as goal
 
 pub invariant_of-result : goal.invariant_of-result
-invariant_of-result c =
-    let x = empty_rows c.empty.result c.empty.ensures.records c.empty.ensures.objects c.empty.ensures.frames in
-    sound_fields c.empty.result (empty_sound c.empty.result x.0 x.1 x.2)
+invariant_of-result c = sound_fields empty_tables empty_sound
 
 pub returns : goal.returns
-returns c =
-    let x = empty_rows c.empty.result c.empty.ensures.records c.empty.ensures.objects c.empty.ensures.frames in
-    record { records = λ k. ap is_some (x.0 k); objects = λ o. ap live (x.1 o); frames = x.2 }
+returns c = record {
+  records = λ k. ap is_some (repeated 256 None k);
+  objects = λ o. ap live (repeated 511 Free o);
+  frames = λ s. repeated 128 None s;
+}

@@ -1,20 +1,25 @@
-use Rattle.std.proofs.Common.{sym, ◌∙◌}
+use Rattle.std.proofs.Common.{sym, ◌∙◌, rules}
+use Rattle.objects.proofs.Effects.{free_is, free_there, open_sound, open_starts, open_keeps}
 use Rattle.objects.proofs.Keeping.{store_sound, sound_fields, all_used}
 use Rattle.objects.proofs.store.Store.open.Goals as goal
 
-pub open-requires : goal.open-requires
-open-requires c = store_sound c.args.self.now
+pub returns-in_err-sharing-clause-full : goal.returns-in_err-sharing-clause-full
+returns-in_err-sharing-clause-full c = λ e. all_used c.args.self.now.tables c.in_err-sharing.ensures
+
+pub unwrap-object-requires : goal.unwrap-object-requires
+unwrap-object-requires c = free_there c.args.self.now.tables (store_sound c.args.self.now) c.in_ok-sharing.sharing c.in_ok-sharing.ensures c.free.result c.free.ensures
+
+pub bounds-self-object : goal.bounds-self-object
+bounds-self-object c = (free_is c.args.self.now.tables c.unwrap-object.result (sym c.unwrap-object.ensures ∙ c.free.ensures)).0
 
 pub invariant_of-self : goal.invariant_of-self
-invariant_of-self c = sound_fields c.open.new.self c.open.ensures.sound
+invariant_of-self c =
+    sound_fields _ (open_sound c.args.self.now.tables (store_sound c.args.self.now) c.args.origin c.unwrap-object.result c.in_ok-sharing.sharing (search rules) (search rules) c.in_ok-sharing.ensures (sym c.unwrap-object.ensures ∙ c.free.ensures))
 
-pub returns : goal.returns
-returns c = record {
-  answer = c.open.ensures.answer;
-  full = λ e. all_used c.args.self.now.tables (sym e ∙ c.open.ensures.answer);
-  refused = c.open.ensures.refused;
-  uses = c.open.ensures.uses;
-  starts = c.open.ensures.starts;
-  keeps = c.open.ensures.keeps;
-  frames = c.open.ensures.frames;
-}
+pub returns-clause-starts : goal.returns-clause-starts
+returns-clause-starts c =
+    open_starts c.args.self.now.tables (store_sound c.args.self.now) c.args.origin c.unwrap-object.result c.in_ok-sharing.sharing (search rules) (search rules) c.in_ok-sharing.ensures (sym c.unwrap-object.ensures ∙ c.free.ensures)
+
+pub returns-clause-keeps : goal.returns-clause-keeps
+returns-clause-keeps c =
+    open_keeps c.args.self.now.tables (store_sound c.args.self.now) c.args.origin c.unwrap-object.result c.in_ok-sharing.sharing (search rules) (search rules) c.in_ok-sharing.ensures (sym c.unwrap-object.ensures ∙ c.free.ensures)

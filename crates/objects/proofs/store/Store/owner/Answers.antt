@@ -1,19 +1,9 @@
-use Rattle.std.proofs.Common.{sym, ap, ◌∙◌}
-use Rattle.objects.specs.Says.{index_of}
-use Rattle.objects.proofs.Ends.{frame_fixes}
-use Rattle.objects.proofs.Keeping.{store_sound}
+use Rattle.std.proofs.Common.{rules}
+use Rattle.objects.proofs.Keeping.{owner_fixes}
 use Rattle.objects.proofs.store.Store.owner.Goals as goal
 
-pub returns-then-slot-ge128 : goal.returns-then-slot-ge128
-returns-then-slot-ge128 c =
-    let none = (store_sound c.args.self.now).formed.frames c.args.slot c.if-slot-ge128.true in
-    record {
-      answer = sym none;
-      fixes = λ k i h. sym (ap index_of none) ∙ frame_fixes c.args.self.now.tables (store_sound c.args.self.now) k i c.args.slot h;
-    }
+pub returns-in_err-get-clause-fixes : goal.returns-in_err-get-clause-fixes
+returns-in_err-get-clause-fixes c = owner_fixes c.args.self.now c.args.slot c.from_residual.result (search rules)
 
-pub returns : goal.returns
-returns c = record {
-  answer = c.owner_at.ensures;
-  fixes = λ k i h. ap index_of c.owner_at.ensures ∙ frame_fixes c.args.self.now.tables (store_sound c.args.self.now) k i c.args.slot h;
-}
+pub returns-clause-fixes : goal.returns-clause-fixes
+returns-clause-fixes c = owner_fixes c.args.self.now c.args.slot c.in_ok-get.field-0.now (search rules)

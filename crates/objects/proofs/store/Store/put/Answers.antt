@@ -1,24 +1,41 @@
-use Rattle.std.proofs.Common.{◌∙◌}
-use Rattle.objects.proofs.Placing.{placeable_end, placeable_both}
-use Rattle.objects.proofs.Ends.{frame_fixes}
+use Rattle.std.proofs.Common.{sym, ◌∙◌, arith, rules}
+use Rattle.objects.proofs.Effects.{free_is, shadow_there, put_sound, put_here, put_others, cover_sound, cover_here, cover_others}
+use Rattle.objects.proofs.Placing.{takes}
 use Rattle.objects.proofs.Keeping.{store_sound, sound_fields}
 use Rattle.objects.proofs.store.Store.put.Goals as goal
 
-pub put-requires : goal.put-requires
-put-requires c = store_sound c.args.self.now
+pub unwrap-shadow-requires : goal.unwrap-shadow-requires
+unwrap-shadow-requires c = shadow_there c.args.self.now.tables (store_sound c.args.self.now) c.args.sharing c.in-Some.object c.in-Some.is (omega arith) c.free.result c.free.ensures
+
+pub bounds-self-shadow : goal.bounds-self-shadow
+bounds-self-shadow c = (free_is c.args.self.now.tables c.unwrap-shadow.result (sym c.unwrap-shadow.ensures ∙ c.free.ensures)).0
 
 pub invariant_of-self : goal.invariant_of-self
-invariant_of-self c = sound_fields c.put.new.self c.put.ensures.sound
+invariant_of-self c =
+    sound_fields _ (cover_sound c.args.self.now.tables (store_sound c.args.self.now) c.args.sharing c.in-Some.object c.in-Some.is (omega arith) c.unwrap-shadow.result (search rules) (search rules) (sym c.unwrap-shadow.ensures ∙ c.free.ensures) c.args.index c.args.slot (search rules) c.if-slot-ge128.false)
 
-pub returns : goal.returns
-returns c = record {
-  answer = c.put.ensures.answer;
-  own = λ u l only. c.put.ensures.answer ∙ placeable_end c.args.self.now.tables (store_sound c.args.self.now) c.args.sharing c.args.index c.args.slot u l only;
-  shared = λ k f d u v l h g. c.put.ensures.answer ∙ placeable_both c.args.self.now.tables (store_sound c.args.self.now) c.args.sharing k c.args.index c.args.slot f d u v l h g;
-  refused = c.put.ensures.refused;
-  uses = c.put.ensures.uses;
-  here = c.put.ensures.here;
-  index = λ e. frame_fixes c.put.new.self c.put.ensures.sound c.args.sharing c.args.index c.args.slot (c.put.ensures.here e).0;
-  others = c.put.ensures.others;
-  slots = c.put.ensures.slots;
-}
+pub returns-then-weight-gt2-clause-here : goal.returns-then-weight-gt2-clause-here
+returns-then-weight-gt2-clause-here c = λ e.
+    cover_here c.args.self.now.tables (store_sound c.args.self.now) c.args.sharing c.in-Some.object c.in-Some.is (omega arith) c.unwrap-shadow.result (search rules) (search rules) (sym c.unwrap-shadow.ensures ∙ c.free.ensures) c.args.index c.args.slot (search rules) c.if-slot-ge128.false
+
+pub returns-then-weight-gt2-clause-others : goal.returns-then-weight-gt2-clause-others
+returns-then-weight-gt2-clause-others c =
+    cover_others c.args.self.now.tables (store_sound c.args.self.now) c.args.sharing c.in-Some.object c.in-Some.is (omega arith) c.unwrap-shadow.result (search rules) (search rules) (sym c.unwrap-shadow.ensures ∙ c.free.ensures) c.args.index c.args.slot (search rules) c.if-slot-ge128.false
+
+pub returns-then-is_some_and-clause-own : goal.returns-then-is_some_and-clause-own
+returns-then-is_some_and-clause-own c = (takes c.args.self.now.tables (store_sound c.args.self.now) c.args.sharing c.args.index c.args.slot _ (search rules)).0
+
+pub returns-then-is_some_and-clause-shared : goal.returns-then-is_some_and-clause-shared
+returns-then-is_some_and-clause-shared c = (takes c.args.self.now.tables (store_sound c.args.self.now) c.args.sharing c.args.index c.args.slot _ (search rules)).1
+
+pub invariant_of-self-2 : goal.invariant_of-self-2
+invariant_of-self-2 c =
+    sound_fields _ (put_sound c.args.self.now.tables (store_sound c.args.self.now) c.args.sharing c.in-Some.object c.args.index c.args.slot (search rules) c.if-slot-ge128.false c.in-Some.is (omega arith) (search rules))
+
+pub returns-clause-here : goal.returns-clause-here
+returns-clause-here c = λ e.
+    put_here c.args.self.now.tables (store_sound c.args.self.now) c.args.sharing c.in-Some.object c.args.index c.args.slot (search rules) c.if-slot-ge128.false c.in-Some.is (omega arith) (search rules)
+
+pub returns-clause-others : goal.returns-clause-others
+returns-clause-others c =
+    put_others c.args.self.now.tables (store_sound c.args.self.now) c.args.sharing c.in-Some.object c.args.index c.args.slot (search rules) c.if-slot-ge128.false c.in-Some.is (omega arith) (search rules)
