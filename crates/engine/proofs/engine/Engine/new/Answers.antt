@@ -5,4 +5,4 @@ use Rattle.engine.proofs.engine.Engine.new.Goals as goal
 
 pub returns : goal.returns
 unfolding start
-returns c = record { frames = sym c.frames_of.ensures; tasks = stands_start c.args.n }
+returns c = record { frames = sym c.min.ensures; tasks = stands_start c.args.n }
