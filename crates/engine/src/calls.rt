@@ -32,6 +32,7 @@ impl From<Refusal> for u8 {
 
 impl Engine {
     // A new engine has the smaller of n and 128 frames, and no task.
+    #[tactic(auto, using(crate::proofs::Tasks::stands_start), unfolding(machine::specs::State::start))]
     pub fn new(n: usize) -> Engine
         ensures { Represents result (start n) }
     {
