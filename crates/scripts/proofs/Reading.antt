@@ -1,11 +1,13 @@
 -- The records of a script, one after another.
-use Rattle.std.proofs.Common.{◌≡◌, ℕ, zero, suc, ◌-◌, ◌<◌, ◌≤◌, false, cond, ltb, List, [], ◌∷◌, length, get_or, take, drop, sym, refl, ap, ◌∙◌, arith, length-drop}
+use Rattle.std.proofs.Common.{◌≡◌, ℕ, zero, suc, ◌-◌, ◌<◌, ◌≤◌, true, false, cond, ltb, List, [], ◌∷◌, length, get_or, take, drop, sym, refl, ap, ◌∙◌, arith, length-drop, Err, Result}
+use Rattle.std.specs.List.{IsSplitAt}
 use Rattle.std.proofs.lemmas.List.{take_all}
 use Rattle.std.proofs.lemmas.Bool.{lt-ltb, le-ltb}
 use Rattle.std.proofs.lemmas.Bool.Decides.{nat_tests}
-use Rattle.scripts.specs.Records.{Item, cut_short, two, meant, reading, items, item_of, byte, on_tasks, Ends, Reads, Splits}
-use Rattle.scripts.specs.declared.reader.Record.{Record}
-use Rattle.scripts.specs.declared.reader.Record.TheVariants.{CutShort}
+use Rattle.scripts.specs.Records.{Item, cut_short, two, meant, reading, items, item_of, byte, on_tasks, Ends, Reads}
+use Rattle.scripts.specs.declared.reader.Command.{Command}
+use Rattle.scripts.specs.declared.reader.BadRecord.{BadRecord}
+use Rattle.scripts.specs.declared.reader.BadRecord.TheVariants.{CutShort}
 
 -- all that is left after n elements
 take_rest : (n : ℕ) (r : List ℕ) → take (length r - n) (drop n r) ≡ drop n r
@@ -32,7 +34,7 @@ reads_none [] h = record { empty = refl; none = refl }
 reads_none (a ∷ s) h = absurd (omega arith)
 
 -- a lone byte of a length
-pub reads_lone : (s : List ℕ) → length s ≡ 1 → Reads s CutShort []
+pub reads_lone : (s : List ℕ) → length s ≡ 1 → Reads s (Err CutShort) []
 unfolding items reading
 reads_lone [] h = absurd (omega arith)
 reads_lone (a ∷ []) h = record { begins = refl; shorter = omega arith }
@@ -44,7 +46,7 @@ unfolding items reading
 items_short a b s h =
     ap (λ t. cond t (cut_short ∷ []) (meant (take (two a b) s) ∷ reading (suc (length s)) (drop (two a b) s))) (lt-ltb (length s) (two a b) h)
 
-pub reads_short : (s : List ℕ) (n : ℕ) → 2 ≤ length s → n ≡ two (get_or s 0 0) (get_or s 1 0) → length (take (length s - 2) (drop 2 s)) < n → Reads s CutShort []
+pub reads_short : (s : List ℕ) (n : ℕ) → 2 ≤ length s → n ≡ two (get_or s 0 0) (get_or s 1 0) → length (take (length s - 2) (drop 2 s)) < n → Reads s (Err CutShort) []
 reads_short [] n h e k = absurd (omega arith)
 reads_short (a ∷ []) n h e k = absurd (omega arith)
 reads_short (a ∷ b ∷ s) n h e k =
@@ -59,13 +61,13 @@ items_more a b s h =
     let g : ltb (length s) (two a b) ≡ false = le-ltb (length s) (two a b) h in
     ap (λ t. cond t (cut_short ∷ []) (meant (take (two a b) s) ∷ reading (suc (length s)) (drop (two a b) s))) g ∙ ap (λ rest. meant (take (two a b) s) ∷ rest) f
 
-pub reads_more : (s : List ℕ) (n : ℕ) (body after : List ℕ) (r : Record) → 2 ≤ length s → n ≡ two (get_or s 0 0) (get_or s 1 0) → Splits n (take (length s - 2) (drop 2 s)) body after → item_of r ≡ meant body → Reads s r after
+pub reads_more : (s : List ℕ) (n : ℕ) (body after : List ℕ) (r : Result Command BadRecord) → 2 ≤ length s → n ≡ two (get_or s 0 0) (get_or s 1 0) → IsSplitAt (take (length s - 2) (drop 2 s)) n body after → item_of r ≡ meant body → Reads s r after
 reads_more [] n body after r h e k t = absurd (omega arith)
 reads_more (a ∷ []) n body after r h e k t = absurd (omega arith)
 reads_more (a ∷ b ∷ s) n body after r h e k t =
-    let f : n ≤ length s = rw (take_rest 2 (a ∷ b ∷ s)) at k.fits in
-    let p : body ≡ take n s = rw (take_rest 2 (a ∷ b ∷ s)) at k.body in
-    let q : after ≡ drop n s = rw (take_rest 2 (a ∷ b ∷ s)) at k.after in
+    let f : n ≤ length s = rw (take_rest 2 (a ∷ b ∷ s)) at k.0 in
+    let p : body ≡ take n s = rw (take_rest 2 (a ∷ b ∷ s)) at k.1 in
+    let q : after ≡ drop n s = rw (take_rest 2 (a ∷ b ∷ s)) at k.2 in
     let l : length after ≡ length s - n = ap length q ∙ length-drop n s in
     let m : items (a ∷ b ∷ s) ≡ meant (take (two a b) s) ∷ items (drop (two a b) s) = items_more a b s (omega arith) in
     let u : n ≡ two a b = e in
@@ -77,3 +79,17 @@ reads_more (a ∷ b ∷ s) n body after r h e k t =
 pub others : (r : List ℕ) (i : Item) → i ≡ on_tasks r → (1 ≤ length r → 2 ≤ byte 0 r → byte 0 r ≤ 6 → ⊥) → (1 ≤ length r → 8 ≤ byte 0 r → byte 0 r ≤ 9 → ⊥) → i ≡ meant r
 others [] i e g h = e
 others (op ∷ r) i e g h = grind (arith, nat_tests)
+
+-- a record has at least a byte
+reading_fit : (n : ℕ) (s : List ℕ) → length s ≤ n → length (reading n s) ≤ length s
+unfolding reading
+reading_fit zero s h = omega arith
+reading_fit (suc n) [] h = omega arith
+reading_fit (suc n) (a ∷ []) h = omega arith
+reading_fit (suc n) (a ∷ b ∷ s) h =
+    elim (ltb (length s) (two a b)) as (λ t. length (cond t (cut_short ∷ []) (meant (take (two a b) s) ∷ reading n (drop (two a b) s))) ≤ suc (suc (length s)))
+    [ true ↦ omega arith | false ↦ let k = reading_fit n (drop (two a b) s) (simp length-drop (omega arith)) in omega (arith, simp length-drop at k) ]
+
+pub items_fit : (s : List ℕ) → length (items s) ≤ length s
+unfolding items
+items_fit s = reading_fit (length s) s (omega arith)

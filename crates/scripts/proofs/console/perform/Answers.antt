@@ -1,8 +1,8 @@
-use Rattle.scripts.proofs.Performing.{answers_malformed, answers_cut}
+use Rattle.std.proofs.lemmas.Result.{err_from_is_err_and}
+use Rattle.scripts.proofs.Performing.{answers_bad}
 use Rattle.scripts.proofs.console.perform.Goals as goal
 
-pub returns-in-Malformed : goal.returns-in-Malformed
-returns-in-Malformed c M s h = answers_malformed M s _ _ c.in-Malformed.is h
-
-pub returns-in-CutShort : goal.returns-in-CutShort
-returns-in-CutShort c M s h = answers_cut M s _ _ c.in-CutShort.is h
+pub returns-in_err-record : goal.returns-in_err-record
+returns-in_err-record c M s h =
+    let p = err_from_is_err_and c.from_residual.result c.from_residual.ensures.1 in
+    rw (p.1, p.2) (answers_bad M s _ _ _ c.in_err-record.was h)
