@@ -37,11 +37,11 @@ passes_over M s c e p h = record { answer = rw p refl; next = rw p h }
 
 pub unperformed : (c : Command) → ((t : ℕ) → c ≡ Create t → ⊥) → ((t : ℕ) → c ≡ Exit t → ⊥) → (c ≡ Usage → ⊥) → performed (machine_call c) ≡ false
 unperformed (Create t) a b d = absurd (a t refl)
-unperformed (MapZero t s n) a b d = refl
-unperformed (MapObject t s n m q) a b d = refl
-unperformed (Unmap t s n) a b d = refl
-unperformed (Protect t s n v) a b d = refl
-unperformed (Inherit t s n v) a b d = refl
+unperformed (MapZero r) a b d = refl
+unperformed (MapObject r m q) a b d = refl
+unperformed (Unmap r) a b d = refl
+unperformed (Protect r v) a b d = refl
+unperformed (Inherit r v) a b d = refl
 unperformed (Fork p c) a b d = refl
 unperformed (Write t x bs) a b d = refl
 unperformed (Read t x n) a b d = refl

@@ -87,11 +87,11 @@ items s = reading (length s) s
 -- a command as a call
 abbrev pub machine_call : Command → Call
 machine_call (Create t) = create t
-machine_call (MapZero t s n) = map_pages t s n zeros
-machine_call (MapObject t s n m q) = map_pages t s n (page_of m q)
-machine_call (Unmap t s n) = unmap t s n
-machine_call (Protect t s n v) = protect t s n v
-machine_call (Inherit t s n v) = inherit t s n v
+machine_call (MapZero a) = map_pages a.task a.start a.pages zeros
+machine_call (MapObject a m q) = map_pages a.task a.start a.pages (page_of m q)
+machine_call (Unmap a) = unmap a.task a.start a.pages
+machine_call (Protect a v) = protect a.task a.start a.pages v
+machine_call (Inherit a v) = inherit a.task a.start a.pages v
 machine_call (Fork p c) = fork p c
 machine_call (Write t a bs) = write 32768 t a bs.now
 machine_call (Read t a n) = read 32768 t a n 256

@@ -29,7 +29,6 @@ struct Hex<'a>(&'a [u8]);
 impl fmt::Display for Hex<'_> {
     ghost output = { λ h. Some (flat_map hex h.0.now) };
 
-    #[tactic(auto, using(crate::proofs::Joining::hex_styled))]
     fn fmt<W: fmt::Write>(&self, f: &mut fmt::Formatter<W>) -> fmt::Result {
         for &byte in self.0 {
             write!(f, "{byte:02x}")?;
@@ -68,7 +67,7 @@ pub fn push_counts(out: &mut String, number: usize, counts: [u32; 4]) -> Result<
 }
 
 // Appends the line of a read that gave the bytes.
-#[tactic(auto, using(std::proofs::lemmas::Fmt::decimal_digit, std::proofs::lemmas::List::append_assoc))]
+#[tactic(auto, using(std::proofs::lemmas::Fmt::decimal_digit))]
 pub fn push_bytes(out: &mut String, number: usize, bytes: &[u8]) -> Result<(), AllocError>
     ensures { OnOk result (string_bytes out.new ≡ string_bytes out.old ++ line number (replied (gives bytes.now))) }
 {

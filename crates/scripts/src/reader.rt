@@ -4,39 +4,37 @@ ghost use Rattle.std.specs.Option.{ok_or};
 ghost use Rattle.std.specs.Iterator.{YieldsFirstBy, item_count};
 ghost use Rattle.scripts.specs.Records.{Ends, Reads, items, meant, item_of, on_tasks, on_ranges, on_bytes};
 
-// What a well-formed record asks for.
+// Pages of a task, as a record names them: they need not be a range that exists.
+#[derive(Clone, Copy, Debug, PartialEq, Eq)]
+pub struct Area {
+    pub task: u8,
+    pub start: u16,
+    pub pages: u16,
+}
+
+// What a well-formed record asks for. A protection or an inheritance is a number, since the call refuses one above 2 in its turn.
 #[derive(Clone, Copy, Debug, PartialEq, Eq)]
 pub enum Command<'a> {
     Create {
         task: u8,
     },
     MapZero {
-        task: u8,
-        start: u16,
-        pages: u16,
+        area: Area,
     },
     MapObject {
-        task: u8,
-        start: u16,
-        pages: u16,
+        area: Area,
         object: u16,
         first: u16,
     },
     Unmap {
-        task: u8,
-        start: u16,
-        pages: u16,
+        area: Area,
     },
     Protect {
-        task: u8,
-        start: u16,
-        pages: u16,
+        area: Area,
         value: u8,
     },
     Inherit {
-        task: u8,
-        start: u16,
-        pages: u16,
+        area: Area,
         value: u8,
     },
     Fork {
@@ -91,30 +89,21 @@ fn range_command(body: &[u8]) -> Option<Command<'_>>
     let &[op, task, s1, s0, n1, n0, ref more @ ..] = body else {
         return None;
     };
-    let start = u16::from_be_bytes([s1, s0]);
-    let pages = u16::from_be_bytes([n1, n0]);
+    let area = Area {
+        task,
+        start: u16::from_be_bytes([s1, s0]),
+        pages: u16::from_be_bytes([n1, n0]),
+    };
     match (op, more) {
-        (2, []) => Some(Command::MapZero { task, start, pages }),
+        (2, []) => Some(Command::MapZero { area }),
         (3, &[m1, m0, q1, q0]) => Some(Command::MapObject {
-            task,
-            start,
-            pages,
+            area,
             object: u16::from_be_bytes([m1, m0]),
             first: u16::from_be_bytes([q1, q0]),
         }),
-        (4, []) => Some(Command::Unmap { task, start, pages }),
-        (5, &[value]) => Some(Command::Protect {
-            task,
-            start,
-            pages,
-            value,
-        }),
-        (6, &[value]) => Some(Command::Inherit {
-            task,
-            start,
-            pages,
-            value,
-        }),
+        (4, []) => Some(Command::Unmap { area }),
+        (5, &[value]) => Some(Command::Protect { area, value }),
+        (6, &[value]) => Some(Command::Inherit { area, value }),
         _ => None,
     }
 }
@@ -128,7 +117,7 @@ fn byte_command(body: &[u8]) -> Option<Command<'_>>
     };
     let address = u32::from_be_bytes([a3, a2, a1, a0]);
     match (op, more) {
-        (8, bytes) if 1 <= bytes.len() && bytes.len() <= 256 => Some(Command::Write {
+        (8, bytes) if (1..=256).contains(&bytes.len()) => Some(Command::Write {
             task,
             address,
             bytes,
@@ -171,7 +160,7 @@ pub fn next_record(script: &[u8]) -> Option<(Record<'_>, &[u8])>
 }
 
 // The records of a script, one after another.
-#[derive(Clone, Drop)]
+#[derive(Drop)]
 pub struct Records<'a>(pub &'a [u8]);
 
 impl<'a> Iterator for Records<'a> {
