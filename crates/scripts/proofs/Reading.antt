@@ -1,5 +1,5 @@
 -- The records of a script, one after another.
-use Rattle.std.proofs.Common.{◌≡◌, ℕ, zero, suc, ◌-◌, ◌<◌, ◌≤◌, true, false, cond, ltb, List, [], ◌∷◌, length, get_or, take, drop, sym, refl, ap, ◌∙◌, arith, length-drop, Err, Result}
+use Rattle.std.proofs.Common.{◌≡◌, ℕ, zero, suc, ◌-◌, ◌<◌, ◌≤◌, false, cond, ltb, List, [], ◌∷◌, length, get_or, take, drop, sym, refl, ap, ◌∙◌, arith, length-drop, Err, Result}
 use Rattle.std.specs.List.{IsSplitAt}
 use Rattle.std.proofs.lemmas.List.{take_all}
 use Rattle.std.proofs.lemmas.Bool.{lt-ltb, le-ltb}
@@ -79,17 +79,3 @@ reads_more (a ∷ b ∷ s) n body after r h e k t =
 pub others : (r : List ℕ) (i : Item) → i ≡ on_tasks r → (1 ≤ length r → 2 ≤ byte 0 r → byte 0 r ≤ 6 → ⊥) → (1 ≤ length r → 8 ≤ byte 0 r → byte 0 r ≤ 9 → ⊥) → i ≡ meant r
 others [] i e g h = e
 others (op ∷ r) i e g h = grind (arith, nat_tests)
-
--- a record has at least a byte
-reading_fit : (n : ℕ) (s : List ℕ) → length s ≤ n → length (reading n s) ≤ length s
-unfolding reading
-reading_fit zero s h = omega arith
-reading_fit (suc n) [] h = omega arith
-reading_fit (suc n) (a ∷ []) h = omega arith
-reading_fit (suc n) (a ∷ b ∷ s) h =
-    elim (ltb (length s) (two a b)) as (λ t. length (cond t (cut_short ∷ []) (meant (take (two a b) s) ∷ reading n (drop (two a b) s))) ≤ suc (suc (length s)))
-    [ true ↦ omega arith | false ↦ let k = reading_fit n (drop (two a b) s) (simp length-drop (omega arith)) in omega (arith, simp length-drop at k) ]
-
-pub items_fit : (s : List ℕ) → length (items s) ≤ length s
-unfolding items
-items_fit s = reading_fit (length s) s (omega arith)

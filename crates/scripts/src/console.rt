@@ -59,6 +59,7 @@ impl From<Trouble> for u8 {
 }
 
 // Performs a command. A call that the engine does not have yet is answered like an unknown operation.
+#[tactic(auto, unfolding(crate::specs::Transcript::answered, crate::specs::Transcript::moved))]
 fn call(engine: &mut Engine, command: Command) -> Result<Reply, Trouble>
     ensures { (M : Meaning) (s : State) → Represents engine.old s → Answers M s (called (machine_call command.entry)) result engine.new }
 {
@@ -72,6 +73,7 @@ fn call(engine: &mut Engine, command: Command) -> Result<Reply, Trouble>
 }
 
 // Performs a record.
+#[tactic(auto, unfolding(crate::specs::Transcript::answered, crate::specs::Transcript::moved))]
 fn perform(engine: &mut Engine, record: Record) -> Result<Reply, Trouble>
     ensures { (M : Meaning) (s : State) → Represents engine.old s → Answers M s (item_of record.entry) result engine.new }
 {
@@ -94,6 +96,7 @@ fn push_line(
 }
 
 // Performs a script on a new engine of 128 frames: a line for each record.
+#[tactic(auto, unfolding(crate::specs::Transcript::transcript_of))]
 pub fn transcript(heap: Global, script: &[u8]) -> Result<String, AllocError>
     ensures { IfOk result (λ t. (M : Meaning) → string_bytes t ≡ transcript_of M script.now) }
 {

@@ -1,7 +1,7 @@
 // The script reader: a script is a row of records, each a length of two bytes, an operation and its fields.
 ghost use Rattle.std.specs.Prelude.{◌≡◌, length, MatchOption};
 ghost use Rattle.std.specs.Option.{ok_or};
-ghost use Rattle.std.specs.Iterator.{YieldsFirstBy, item_count};
+ghost use Rattle.std.specs.Iterator.{YieldsFirstBy, at_most};
 ghost use Rattle.scripts.specs.Records.{Ends, Reads, items, meant, item_of, on_tasks, on_ranges, on_bytes};
 
 // Pages of a task, as a record names them: they need not be a range that exists.
@@ -168,7 +168,7 @@ impl<'a> Iterator for Records<'a> {
 
     ghost next_gives = { YieldsFirstBy item_of (λ s. items s.0.now) };
 
-    ghost remaining = { item_count (λ s. items s.0.now) };
+    ghost remaining = { λ s. at_most (length s.0.now) };
 
     fn next(&mut self) -> Option<Record<'a>> {
         let (record, rest) = next_record(self.0)?;
@@ -178,7 +178,6 @@ impl<'a> Iterator for Records<'a> {
 }
 
 // The number of a script's records.
-#[tactic(auto, using(crate::proofs::Reading::items_fit))]
 pub fn count_records(script: &[u8]) -> usize
     ensures { result ≡ length (items script.now) }
 {
