@@ -1,5 +1,5 @@
 use Rattle.std.proofs.Common.{◌+◌, ap}
-use Rattle.scripts.proofs.Performing.{one_more, none_left}
+use Rattle.scripts.proofs.Printing.{one_more, none_left}
 use Rattle.scripts.proofs.console.transcript.Goals as goal
 
 pub loop-i-preserved : goal.loop-i-preserved

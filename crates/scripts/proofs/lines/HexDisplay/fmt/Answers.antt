@@ -3,7 +3,7 @@ use Rattle.std.specs.List.{flat_map}
 use Rattle.std.proofs.Output.{has_written_of_eq, has_written_append}
 use Rattle.std.proofs.lemmas.List.{flat_map_more, take_more}
 use Rattle.scripts.specs.Text.{hex}
-use Rattle.scripts.proofs.Joining.{hex_styled}
+use Rattle.scripts.proofs.Printing.{hex_styled}
 use Rattle.scripts.proofs.lines.HexDisplay.fmt.Goals as goal
 
 pub loop-byte-preserved : goal.loop-byte-preserved
