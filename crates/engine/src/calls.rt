@@ -1,4 +1,4 @@
-// The calls, each answered as the copying machine answers it.
+// The calls, each answered as the copying machine answers it: for every state that the engine stands for, of which a model could name only one.
 ghost use Rattle.std.specs.Prelude.{◌≡◌, false, is_ok};
 ghost use Rattle.pagers.specs.Meaning.{Meaning};
 ghost use Rattle.machine.specs.Calls.{create, exit, usage, refused};

@@ -1,4 +1,6 @@
 // The lines of a transcript: a record's number, the answer and what it carries.
+// The number is the caller's, from the iterator over the records: in a struct beside the text it could not be given for a lone line.
+// An answer is given as its number, since a type of answers would take fewer of them than a u8.
 ghost use Rattle.std.specs.Prelude.{◌≡◌, ◌++◌, Some, string_bytes, decimal, OnOk};
 ghost use Rattle.machine.specs.Calls.{gives};
 ghost use Rattle.scripts.specs.Text.{Adds, hex, line, replied, row, spaced, usage_answer};
@@ -22,7 +24,7 @@ impl fmt::Display for Spaced<'_> {
     }
 }
 
-// Bytes, printed in hexadecimal and joined.
+// Bytes, printed in hexadecimal and joined. One type for these and the numbers would need a slice of wrapped items.
 #[derive(Clone, Copy)]
 struct Hex<'a>(&'a [u8]);
 
