@@ -1,3 +1,3 @@
 pub mod Tasks
-pub mod Relation
 pub mod Places
+pub mod Relation

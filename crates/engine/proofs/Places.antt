@@ -1,64 +1,42 @@
--- What the place of a task says of the machine's answer.
-use Rattle.std.proofs.Common.{◌≡◌, ℕ, Bool, true, false, cond, List, get_or, Some, None, Ok, Err, Option, Result, sym, refl, ap, ◌∙◌, arith}
+-- What the place of a task says of the machine's answers to create and exit.
+use Rattle.std.proofs.Common.{◌≡◌, ℕ, ◌-◌, Bool, true, false, cond, not, ◌&&◌, ◌||◌, leb, List, [], ◌∷◌, get_or, Some, None, Ok, Err, Option, Result, refl}
 use Rattle.machine.specs.Calls.{done}
 use Rattle.machine.specs.State.{State}
-use Rattle.machine.specs.Step.{created, ended, with_task}
+use Rattle.machine.specs.Step.{Outcome, refuse, judged, accepted, misnumbered, missing, created, ended, with_task}
 use Rattle.engine.specs.declared.engine.Refusal.{Refusal}
 use Rattle.engine.specs.declared.engine.Refusal.TheVariants.{NoTask, Living}
-use Rattle.engine.specs.Relation.{place_of, entries_if, refusal}
+use Rattle.engine.specs.Relation.{row_at, entries_if, refusal}
 use Rattle.engine.specs.Places.{wanted, free_place_of, living_place_of}
-use Rattle.engine.proofs.Tasks.{Stands, create_unnumbered, create_living, create_new, exit_unnumbered, exit_ended, exit_living}
+use Rattle.engine.proofs.Tasks.{Stands, lives_row}
 
-ok_err : (k : ℕ) (e : Refusal) → Ok k ≡ Err e → ⊥
-ok_err k e q = let z : ◌≡◌ {A = ℕ} 0 1 = cc in omega arith
+-- what a call answers that wants a place: done, and the state after it, or a refusal
+abbrev pub told : Result ℕ Refusal → State → State → Outcome
+told (Ok k) s after = record { reply = done; next = after }
+told (Err e) s after = record { reply = refusal e; next = s }
 
-same_ok : (j k : ℕ) → ◌≡◌ {A = Result ℕ Refusal} (Ok j) (Ok k) → j ≡ k
-same_ok j k q = cc
+-- the machine's tests, where b says that the task's number is right, and k is its place then
+free_judged : (living : List Bool) (k : ℕ) (b : Bool) (s after : State) → judged (refuse 2 (not b) ∷ refuse 3 (row_at living (cond b (Some k) None)) ∷ []) s (accepted after) ≡ told (wanted living false Living (cond b (Some k) None)) s after
+unfolding judged refuse accepted
+free_judged living k false s after = refl
+free_judged living k true s after =
+    elim (get_or living k false) as (λ row. judged (refuse 2 false ∷ refuse 3 row ∷ []) s (accepted after) ≡ told (cond row (Err Living) (Ok k)) s after) [ true ↦ refl | false ↦ refl ]
 
-same_err : (d e : Refusal) → ◌≡◌ {A = Result ℕ Refusal} (Err d) (Err e) → d ≡ e
-same_err d e q = cc
+living_judged : (living : List Bool) (k : ℕ) (b : Bool) (s after : State) → judged (refuse 2 (not b || not (row_at living (cond b (Some k) None))) ∷ []) s (accepted after) ≡ told (wanted living true NoTask (cond b (Some k) None)) s after
+unfolding judged refuse accepted
+living_judged living k false s after = refl
+living_judged living k true s after =
+    elim (get_or living k false) as (λ row. judged (refuse 2 (not row) ∷ []) s (accepted after) ≡ told (cond row (Ok k) (Err NoTask)) s after) [ true ↦ refl | false ↦ refl ]
 
-module _ (living : List Bool) (s : State) (t : ℕ) (h : Stands living s) where
-  pub create_refused : (e : Refusal) → Err e ≡ free_place_of living t → created s t ≡ record { reply = refusal e; next = s }
-  create_refused e q = go (place_of t) refl q
-    where
-      at : (k : ℕ) (b : Bool) → place_of t ≡ Some k → get_or living k false ≡ b → Err e ≡ cond b (Err Living) (Ok k) → created s t ≡ record { reply = refusal e; next = s }
-      at k true p is q = create_living living s t k h p is ∙ ap (λ r. record { reply = refusal r; next = s }) (sym (same_err e Living q))
-      at k false p is q = absurd (ok_err k e (sym q))
+pub create_told : (living : List Bool) (s : State) (t : ℕ) → Stands living s → created s t ≡ told (free_place_of living t) s (with_task s t (entries_if true))
+unfolding created misnumbered
+create_told living s t h = rw (lives_row living s t h) (free_judged living (t - 1) (leb 1 t && leb t 16) s _)
 
-      go : (p : Option ℕ) → place_of t ≡ p → Err e ≡ wanted living false Living p → created s t ≡ record { reply = refusal e; next = s }
-      go None p q = create_unnumbered s t p ∙ ap (λ r. record { reply = refusal r; next = s }) (sym (same_err e NoTask q))
-      go (Some k) p q = at k (get_or living k false) p refl q
+pub exit_told : (living : List Bool) (s : State) (t : ℕ) → Stands living s → ended s t ≡ told (living_place_of living t) s (with_task s t (entries_if false))
+unfolding ended missing misnumbered
+exit_told living s t h = rw (lives_row living s t h) (living_judged living (t - 1) (leb 1 t && leb t 16) s _)
 
-  pub create_made : (k : ℕ) → Ok k ≡ free_place_of living t → (place_of t ≡ Some k) × (created s t ≡ record { reply = done; next = with_task s t (entries_if true) })
-  create_made k q = go (place_of t) refl q
-    where
-      at : (j : ℕ) (b : Bool) → place_of t ≡ Some j → get_or living j false ≡ b → Ok k ≡ cond b (Err Living) (Ok j) → (place_of t ≡ Some k) × (created s t ≡ record { reply = done; next = with_task s t (entries_if true) })
-      at j true p is q = absurd (ok_err k Living q)
-      at j false p is q = (p ∙ ap Some (sym (same_ok k j q)), create_new living s t j h p is)
-
-      go : (p : Option ℕ) → place_of t ≡ p → Ok k ≡ wanted living false Living p → (place_of t ≡ Some k) × (created s t ≡ record { reply = done; next = with_task s t (entries_if true) })
-      go None p q = absurd (ok_err k NoTask q)
-      go (Some j) p q = at j (get_or living j false) p refl q
-
-  pub exit_refused : (e : Refusal) → Err e ≡ living_place_of living t → ended s t ≡ record { reply = refusal e; next = s }
-  exit_refused e q = go (place_of t) refl q
-    where
-      at : (k : ℕ) (b : Bool) → place_of t ≡ Some k → get_or living k false ≡ b → Err e ≡ cond b (Ok k) (Err NoTask) → ended s t ≡ record { reply = refusal e; next = s }
-      at k true p is q = absurd (ok_err k e (sym q))
-      at k false p is q = exit_ended living s t k h p is ∙ ap (λ r. record { reply = refusal r; next = s }) (sym (same_err e NoTask q))
-
-      go : (p : Option ℕ) → place_of t ≡ p → Err e ≡ wanted living true NoTask p → ended s t ≡ record { reply = refusal e; next = s }
-      go None p q = exit_unnumbered s t p ∙ ap (λ r. record { reply = refusal r; next = s }) (sym (same_err e NoTask q))
-      go (Some k) p q = at k (get_or living k false) p refl q
-
-  pub exit_made : (k : ℕ) → Ok k ≡ living_place_of living t → (place_of t ≡ Some k) × (ended s t ≡ record { reply = done; next = with_task s t (entries_if false) })
-  exit_made k q = go (place_of t) refl q
-    where
-      at : (j : ℕ) (b : Bool) → place_of t ≡ Some j → get_or living j false ≡ b → Ok k ≡ cond b (Ok j) (Err NoTask) → (place_of t ≡ Some k) × (ended s t ≡ record { reply = done; next = with_task s t (entries_if false) })
-      at j true p is q = (p ∙ ap Some (sym (same_ok k j q)), exit_living living s t j h p is)
-      at j false p is q = absurd (ok_err k NoTask q)
-
-      go : (p : Option ℕ) → place_of t ≡ p → Ok k ≡ wanted living true NoTask p → (place_of t ≡ Some k) × (ended s t ≡ record { reply = done; next = with_task s t (entries_if false) })
-      go None p q = absurd (ok_err k NoTask q)
-      go (Some j) p q = at j (get_or living j false) p refl q
+-- a place that is as wanted is the task's
+pub wanted_place : (living : List Bool) (lives : Bool) (other : Refusal) (p : Option ℕ) (k : ℕ) → Ok k ≡ wanted living lives other p → p ≡ Some k
+wanted_place living lives other None k e = cc
+wanted_place living true other (Some j) k e = elim (get_or living j false) as (λ row. Ok k ≡ cond row (Ok j) (Err other) → Some j ≡ Some k) [ true ↦ λ q. cc | false ↦ λ q. cc ] e
+wanted_place living false other (Some j) k e = elim (get_or living j false) as (λ row. Ok k ≡ cond row (Err other) (Ok j) → Some j ≡ Some k) [ true ↦ λ q. cc | false ↦ λ q. cc ] e

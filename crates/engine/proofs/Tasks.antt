@@ -1,40 +1,20 @@
 -- Living tasks in the engine's rows and in the machine's state.
-use Rattle.std.proofs.Common.{◌≡◌, ℕ, zero, suc, ◌-◌, ◌<◌, Bool, true, false, cond, not, ◌&&◌, leb, ◌⊎◌, List, [], ◌∷◌, length, get_or, set, replicate, is_some, Some, None, Option, unwrap_or, sym, refl, ap, ◌∙◌, inl, inr, arith}
+use Rattle.std.proofs.Common.{◌≡◌, ℕ, zero, suc, ◌-◌, ◌<◌, Bool, true, false, cond, ◌&&◌, leb, ◌⊎◌, List, [], ◌∷◌, length, get_or, set, replicate, is_some, Some, None, Option, unwrap_or, refl, ap, ◌∙◌, inl, inr, arith}
 use Rattle.std.specs.List.{flat_map}
 use Rattle.std.proofs.lemmas.Bool.{cases_eq, eq-eqb, ne_eqb, leb-true, and_parts}
 use Rattle.std.proofs.lemmas.List.{get_or-set_same, get_or-set_other}
-use Rattle.machine.specs.Calls.{done, counts, refused}
+use Rattle.machine.specs.Calls.{counts}
 use Rattle.machine.specs.State.{State, start, numbers, table, lives, all_entries, living_cells, living_marks, living_records, distinct}
-use Rattle.machine.specs.Step.{judged, accepted, misnumbered, missing, created, ended, counted, with_task}
-use Rattle.machine.proofs.Judged.{passes, stops}
+use Rattle.machine.specs.Step.{counted, with_task}
 use Rattle.engine.specs.Relation.{place_of, row_at, entries_if}
 
 -- the rows stand for the living tasks
 abbrev pub Stands : List Bool → State → Type 0
 Stands living s = (t : ℕ) → s.tasks t ≡ entries_if (row_at living (place_of t))
 
-none_some : (k : ℕ) → None ≡ Some k → ⊥
-none_some k e = let z : ◌≡◌ {A = ℕ} 0 1 = cc in omega arith
-
-same_some : (j k : ℕ) → Some j ≡ Some k → j ≡ k
-same_some j k e = cc
-
--- a task with no place is misnumbered, and one with a place is not
-placeless : (b : Bool) (k : ℕ) → cond b (Some k) None ≡ None → not b ≡ true
-placeless true k e = absurd (none_some k (sym e))
-placeless false k e = refl
-
 placed : (b : Bool) (j k : ℕ) → cond b (Some j) None ≡ Some k → (b ≡ true) × (j ≡ k)
-placed true j k e = (refl, same_some j k e)
-placed false j k e = absurd (none_some k e)
-
-outside : (t : ℕ) → place_of t ≡ None → misnumbered t ≡ true
-unfolding misnumbered
-outside t e = placeless (leb 1 t && leb t 16) (t - 1) e
-
-inside : (t k : ℕ) → place_of t ≡ Some k → misnumbered t ≡ false
-unfolding misnumbered
-inside t k e = ap not (placed (leb 1 t && leb t 16) (t - 1) k e).0
+placed true j k e = (refl, cc)
+placed false j k e = cc
 
 -- two tasks have two places
 place_same : (t u k : ℕ) → place_of t ≡ Some k → place_of u ≡ Some k → u ≡ t
@@ -63,45 +43,9 @@ lives_if : (b : Bool) → is_some (entries_if b) ≡ b
 lives_if true = refl
 lives_if false = refl
 
-pub lives_row : (living : List Bool) (s : State) (t k : ℕ) → Stands living s → place_of t ≡ Some k → lives s t ≡ get_or living k false
+pub lives_row : (living : List Bool) (s : State) (t : ℕ) → Stands living s → lives s t ≡ row_at living (place_of t)
 unfolding lives
-lives_row living s t k h p = ap is_some (h t) ∙ lives_if (row_at living (place_of t)) ∙ ap (row_at living) p
-
--- What create answers
-
-pub create_unnumbered : (s : State) (t : ℕ) → place_of t ≡ None → created s t ≡ record { reply = refused 2; next = s }
-unfolding created
-create_unnumbered s t p = stops 2 (misnumbered t) _ s _ (outside t p)
-
-pub create_living : (living : List Bool) (s : State) (t k : ℕ) → Stands living s → place_of t ≡ Some k → get_or living k false ≡ true → created s t ≡ record { reply = refused 3; next = s }
-unfolding created
-create_living living s t k h p e = passes 2 (misnumbered t) _ s _ (inside t k p) ∙ stops 3 (lives s t) _ s _ (lives_row living s t k h p ∙ e)
-
-pub create_new : (living : List Bool) (s : State) (t k : ℕ) → Stands living s → place_of t ≡ Some k → get_or living k false ≡ false → created s t ≡ record { reply = done; next = with_task s t (entries_if true) }
-unfolding created judged accepted
-create_new living s t k h p e = passes 2 (misnumbered t) _ s _ (inside t k p) ∙ passes 3 (lives s t) [] s _ (lives_row living s t k h p ∙ e)
-
--- What exit answers
-
-missing_outside : (s : State) (t : ℕ) → place_of t ≡ None → missing s t ≡ true
-unfolding missing
-missing_outside s t p = rw (outside t p) refl
-
-missing_row : (living : List Bool) (s : State) (t k : ℕ) → Stands living s → place_of t ≡ Some k → missing s t ≡ not (get_or living k false)
-unfolding missing
-missing_row living s t k h p = rw (inside t k p, lives_row living s t k h p) refl
-
-pub exit_unnumbered : (s : State) (t : ℕ) → place_of t ≡ None → ended s t ≡ record { reply = refused 2; next = s }
-unfolding ended
-exit_unnumbered s t p = stops 2 (missing s t) _ s _ (missing_outside s t p)
-
-pub exit_ended : (living : List Bool) (s : State) (t k : ℕ) → Stands living s → place_of t ≡ Some k → get_or living k false ≡ false → ended s t ≡ record { reply = refused 2; next = s }
-unfolding ended
-exit_ended living s t k h p e = stops 2 (missing s t) _ s _ (missing_row living s t k h p ∙ ap not e)
-
-pub exit_living : (living : List Bool) (s : State) (t k : ℕ) → Stands living s → place_of t ≡ Some k → get_or living k false ≡ true → ended s t ≡ record { reply = done; next = with_task s t (entries_if false) }
-unfolding ended judged accepted
-exit_living living s t k h p e = passes 2 (missing s t) [] s _ (missing_row living s t k h p ∙ ap not e)
+lives_row living s t h = ap is_some (h t) ∙ lives_if (row_at living (place_of t))
 
 -- What usage counts
 

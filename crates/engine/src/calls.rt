@@ -1,10 +1,10 @@
-// The calls, each answered as the copying machine answers it.
-ghost use Rattle.std.specs.Prelude.{◌≡◌, ◌<◌, min, Bool, true, false, cond, is_ok};
+// The calls, each answered as the copying machine answers it: for every state that the engine stands for, of which a model could name only one.
+ghost use Rattle.std.specs.Prelude.{◌≡◌, false, is_ok};
 ghost use Rattle.pagers.specs.Meaning.{Meaning};
 ghost use Rattle.machine.specs.Calls.{create, exit, usage, refused};
 ghost use Rattle.machine.specs.State.{State, start};
 ghost use Rattle.engine.specs.Relation.{Represents, Follows, outcome, counted, place_of, refusal};
-ghost use Rattle.engine.specs.Places.{free_place_of, living_place_of, Within};
+ghost use Rattle.engine.specs.Places.{wanted, Within};
 
 use crate::engine::{Engine, Refusal, Usage};
 
@@ -13,81 +13,46 @@ fn place(task: u8) -> Option<usize>
     ensures { result ≡ place_of task }
 {
     match task {
-        1..=16 => Some(task as usize - 1),
+        1..=16 => Some(usize::from(task) - 1),
         _ => None,
     }
 }
 
-// How many frames an engine has.
-fn frames_of(n: usize) -> u8
-    ensures { result ≡ min n 128 }
-{
-    n.min(128) as u8
-}
+// The refusal's number in the table of answers.
+impl From<Refusal> for u8 {
+    ghost from_gives = { λ r n. refusal r ≡ refused n };
 
-impl Refusal {
-    // The refusal's number in the table of answers.
-    pub fn number(self) -> u8
-        ensures { refusal self ≡ refused result }
-    {
-        match self {
+    fn from(refusal: Refusal) -> u8 {
+        match refusal {
             Refusal::NoTask => 2,
             Refusal::Living => 3,
         }
     }
 }
 
-impl Usage {
-    // The usage of an engine whose tasks have no entries.
-    fn without_entries(frames: u8) -> Usage
-        ensures { result ≡ record { entries = 0; records = 0; marks = 0; frames = frames } }
-    {
-        Usage {
-            entries: 0,
-            records: 0,
-            marks: 0,
-            frames: u32::from(frames),
-        }
-    }
-}
-
 impl Engine {
     // A new engine has the smaller of n and 128 frames, and no task.
+    #[tactic(auto, using(crate::proofs::Tasks::stands_start), unfolding(machine::specs::State::start))]
     pub fn new(n: usize) -> Engine
         ensures { Represents result (start n) }
     {
         Engine {
-            frames: frames_of(n),
+            frames: n.min(128) as u8,
             living: [false; 16],
         }
     }
 
-    // Where a task can be made.
-    fn free_place(&self, task: u8) -> Result<usize, Refusal>
-        ensures value { result ≡ free_place_of self.now.living task }
+    // The place of a task that lives or does not, as wanted; otherwise why there is none.
+    fn place_if(&self, task: u8, lives: bool, otherwise: Refusal) -> Result<usize, Refusal>
+        ensures value { result ≡ wanted self.now.living lives otherwise (place_of task) }
         ensures within { Within result }
     {
-        let Some(at) = place(task) else {
-            return Err(Refusal::NoTask);
-        };
-        if self.living[at] {
-            return Err(Refusal::Living);
+        let at = place(task).ok_or(Refusal::NoTask)?;
+        if self.living[at] == lives {
+            Ok(at)
+        } else {
+            Err(otherwise)
         }
-        Ok(at)
-    }
-
-    // Where a living task is.
-    fn living_place(&self, task: u8) -> Result<usize, Refusal>
-        ensures value { result ≡ living_place_of self.now.living task }
-        ensures within { Within result }
-    {
-        let Some(at) = place(task) else {
-            return Err(Refusal::NoTask);
-        };
-        if !self.living[at] {
-            return Err(Refusal::NoTask);
-        }
-        Ok(at)
     }
 
     // Makes a task without entries.
@@ -95,7 +60,7 @@ impl Engine {
         ensures refusal { is_ok result ≡ false → self.new ≡ self.old }
         ensures machine { (M : Meaning) (s : State) → Represents self.old s → Follows M s (create task) (outcome result) self.new }
     {
-        let at = self.free_place(task)?;
+        let at = self.place_if(task, false, Refusal::Living)?;
         self.living[at] = true;
         Ok(())
     }
@@ -105,7 +70,7 @@ impl Engine {
         ensures refusal { is_ok result ≡ false → self.new ≡ self.old }
         ensures machine { (M : Meaning) (s : State) → Represents self.old s → Follows M s (exit task) (outcome result) self.new }
     {
-        let at = self.living_place(task)?;
+        let at = self.place_if(task, true, Refusal::NoTask)?;
         self.living[at] = false;
         Ok(())
     }
@@ -114,6 +79,11 @@ impl Engine {
     pub fn usage(&self) -> Usage
         ensures { (M : Meaning) (s : State) → Represents self.now s → Follows M s usage (counted result) self.now }
     {
-        Usage::without_entries(self.frames)
+        Usage {
+            entries: 0,
+            records: 0,
+            marks: 0,
+            frames: u32::from(self.frames),
+        }
     }
 }

@@ -1,3 +1,2 @@
-pub mod Joining
 pub mod Reading
-pub mod Performing
+pub mod Printing

@@ -1,14 +1,15 @@
 -- The records of a script, one after another.
-use Rattle.std.proofs.Common.{◌≡◌, ℕ, zero, suc, ◌-◌, ◌<◌, ◌≤◌, false, cond, ltb, List, [], ◌∷◌, length, get_or, take, drop, sym, refl, ap, ◌∙◌, arith, length-drop}
+use Rattle.std.proofs.Common.{◌≡◌, ℕ, zero, suc, ◌+◌, ◌-◌, ◌<◌, ◌≤◌, false, cond, ltb, List, [], ◌∷◌, length, get_or, take, drop, refl, ap, ◌∙◌, arith, length-drop, Result}
+use Rattle.std.specs.List.{IsSplitAt}
 use Rattle.std.proofs.lemmas.List.{take_all}
 use Rattle.std.proofs.lemmas.Bool.{lt-ltb, le-ltb}
 use Rattle.std.proofs.lemmas.Bool.Decides.{nat_tests}
-use Rattle.scripts.specs.Records.{Item, cut_short, two, meant, reading, items, item_of, byte, on_tasks, Ends, Reads, Splits}
-use Rattle.scripts.specs.declared.reader.Record.{Record}
-use Rattle.scripts.specs.declared.reader.Record.TheVariants.{CutShort}
+use Rattle.scripts.specs.Records.{Item, cut_short, two, meant, reading, items, item_of, byte, on_tasks, Reads}
+use Rattle.scripts.specs.declared.reader.Command.{Command}
+use Rattle.scripts.specs.declared.reader.BadRecord.{BadRecord}
 
 -- all that is left after n elements
-take_rest : (n : ℕ) (r : List ℕ) → take (length r - n) (drop n r) ≡ drop n r
+pub take_rest : (n : ℕ) (r : List ℕ) → take (length r - n) (drop n r) ≡ drop n r
 take_rest n r = take_all (length r - n) (drop n r) (simp length-drop (omega arith))
 
 -- steps enough are steps enough
@@ -25,31 +26,30 @@ fuel (suc m) (suc n) (a ∷ b ∷ s) h k =
     ap (λ rest. cond (ltb (length s) (two a b)) (cut_short ∷ []) (meant (take (two a b) s) ∷ rest))
     (fuel m n (drop (two a b) s) (simp length-drop (omega arith)) (simp length-drop (omega arith)))
 
+-- the number in a script's first two bytes
+abbrev pub size : List ℕ → ℕ
+size s = two (get_or s 0 0) (get_or s 1 0)
+
 -- a script at its end
-pub reads_none : (s : List ℕ) → length s < 1 → Ends s
+pub items_none : (s : List ℕ) → length s < 1 → items s ≡ []
 unfolding items reading
-reads_none [] h = record { empty = refl; none = refl }
-reads_none (a ∷ s) h = absurd (omega arith)
+items_none [] h = refl
+items_none (a ∷ s) h = absurd (omega arith)
 
 -- a lone byte of a length
-pub reads_lone : (s : List ℕ) → length s ≡ 1 → Reads s CutShort []
+pub items_lone : (s : List ℕ) → length s ≡ 1 → items s ≡ cut_short ∷ []
 unfolding items reading
-reads_lone [] h = absurd (omega arith)
-reads_lone (a ∷ []) h = record { begins = refl; shorter = omega arith }
-reads_lone (a ∷ b ∷ s) h = absurd (omega arith)
+items_lone [] h = absurd (omega arith)
+items_lone (a ∷ []) h = refl
+items_lone (a ∷ b ∷ s) h = absurd (omega arith)
 
 -- fewer bytes than the length says
-items_short : (a b : ℕ) (s : List ℕ) → length s < two a b → items (a ∷ b ∷ s) ≡ cut_short ∷ items []
+pub items_short : (s : List ℕ) → 2 ≤ length s → length s < size s + 2 → items s ≡ cut_short ∷ []
 unfolding items reading
-items_short a b s h =
-    ap (λ t. cond t (cut_short ∷ []) (meant (take (two a b) s) ∷ reading (suc (length s)) (drop (two a b) s))) (lt-ltb (length s) (two a b) h)
-
-pub reads_short : (s : List ℕ) (n : ℕ) → 2 ≤ length s → n ≡ two (get_or s 0 0) (get_or s 1 0) → length (take (length s - 2) (drop 2 s)) < n → Reads s CutShort []
-reads_short [] n h e k = absurd (omega arith)
-reads_short (a ∷ []) n h e k = absurd (omega arith)
-reads_short (a ∷ b ∷ s) n h e k =
-    let k' : length s < n = rw (take_rest 2 (a ∷ b ∷ s)) at k in
-    record { begins = items_short a b s (omega arith); shorter = omega arith }
+items_short [] h k = absurd (omega arith)
+items_short (a ∷ []) h k = absurd (omega arith)
+items_short (a ∷ b ∷ s) h k =
+    ap (λ t. cond t (cut_short ∷ []) (meant (take (two a b) s) ∷ reading (suc (length s)) (drop (two a b) s))) (lt-ltb (length s) (two a b) (omega arith))
 
 -- a whole record
 items_more : (a b : ℕ) (s : List ℕ) → two a b ≤ length s → items (a ∷ b ∷ s) ≡ meant (take (two a b) s) ∷ items (drop (two a b) s)
@@ -59,19 +59,13 @@ items_more a b s h =
     let g : ltb (length s) (two a b) ≡ false = le-ltb (length s) (two a b) h in
     ap (λ t. cond t (cut_short ∷ []) (meant (take (two a b) s) ∷ reading (suc (length s)) (drop (two a b) s))) g ∙ ap (λ rest. meant (take (two a b) s) ∷ rest) f
 
-pub reads_more : (s : List ℕ) (n : ℕ) (body after : List ℕ) (r : Record) → 2 ≤ length s → n ≡ two (get_or s 0 0) (get_or s 1 0) → Splits n (take (length s - 2) (drop 2 s)) body after → item_of r ≡ meant body → Reads s r after
+pub reads_more : (s : List ℕ) (n : ℕ) (body after : List ℕ) (r : Result Command BadRecord) → 2 ≤ length s → n ≡ size s → IsSplitAt (take (length s - 2) (drop 2 s)) n body after → item_of r ≡ meant body → Reads s r after
 reads_more [] n body after r h e k t = absurd (omega arith)
 reads_more (a ∷ []) n body after r h e k t = absurd (omega arith)
 reads_more (a ∷ b ∷ s) n body after r h e k t =
-    let f : n ≤ length s = rw (take_rest 2 (a ∷ b ∷ s)) at k.fits in
-    let p : body ≡ take n s = rw (take_rest 2 (a ∷ b ∷ s)) at k.body in
-    let q : after ≡ drop n s = rw (take_rest 2 (a ∷ b ∷ s)) at k.after in
-    let l : length after ≡ length s - n = ap length q ∙ length-drop n s in
-    let m : items (a ∷ b ∷ s) ≡ meant (take (two a b) s) ∷ items (drop (two a b) s) = items_more a b s (omega arith) in
-    let u : n ≡ two a b = e in
-    let v : item_of r ≡ meant (take (two a b) s) = t ∙ ap meant (p ∙ ap (λ k. take k s) u) in
-    let w : items after ≡ items (drop (two a b) s) = ap items (q ∙ ap (λ k. drop k s) u) in
-    record { begins = m ∙ ap (λ i. i ∷ items (drop (two a b) s)) (sym v) ∙ ap (λ rest. item_of r ∷ rest) (sym w); shorter = omega arith }
+    let q : IsSplitAt s n body after = rw (take_rest 2 (a ∷ b ∷ s)) at k in
+    let more : items (a ∷ b ∷ s) ≡ meant (take n s) ∷ items (drop n s) = rw e (items_more a b s (omega arith)) in
+    record { begins = more ∙ rw (← q.1, ← q.2, t) refl; shorter = omega arith }
 
 -- a record that is on neither ranges nor bytes
 pub others : (r : List ℕ) (i : Item) → i ≡ on_tasks r → (1 ≤ length r → 2 ≤ byte 0 r → byte 0 r ≤ 6 → ⊥) → (1 ≤ length r → 8 ≤ byte 0 r → byte 0 r ≤ 9 → ⊥) → i ≡ meant r

@@ -1,10 +1,10 @@
 -- What the bytes of a script mean: a list of calls, malformed records and at most one record that is cut short.
-use Rattle.std.specs.Prelude.{◌≡◌, ℕ, zero, suc, ◌+◌, ◌*◌, ◌<◌, ◌≤◌, cond, ◌&&◌, List, [], ◌∷◌, length, take, drop, ◌==◌, nat_le, nat_lt, slice_index}
+use Rattle.std.specs.Prelude.{◌≡◌, ℕ, zero, suc, ◌+◌, ◌*◌, ◌<◌, cond, ◌&&◌, List, [], ◌∷◌, length, take, drop, ◌==◌, nat_le, nat_lt, slice_index, Ok, Err, Result}
 use Rattle.machine.specs.Calls.{Call, create, map_pages, unmap, protect, inherit, fork, write, read, exit, usage, zeros, page_of}
 use Rattle.scripts.specs.declared.reader.Command.{Command}
 use Rattle.scripts.specs.declared.reader.Command.TheVariants.{Create, MapZero, MapObject, Unmap, Protect, Inherit, Fork, Write, Read, Exit, Usage}
-use Rattle.scripts.specs.declared.reader.Record.{Record}
-use Rattle.scripts.specs.declared.reader.Record.TheVariants.{Command as Given, Malformed, CutShort}
+use Rattle.scripts.specs.declared.reader.BadRecord.{BadRecord}
+use Rattle.scripts.specs.declared.reader.BadRecord.TheVariants.{Malformed, CutShort}
 
 -- a record of a script
 pub data Item : Type 0 where
@@ -87,11 +87,11 @@ items s = reading (length s) s
 -- a command as a call
 abbrev pub machine_call : Command → Call
 machine_call (Create t) = create t
-machine_call (MapZero t s n) = map_pages t s n zeros
-machine_call (MapObject t s n m q) = map_pages t s n (page_of m q)
-machine_call (Unmap t s n) = unmap t s n
-machine_call (Protect t s n v) = protect t s n v
-machine_call (Inherit t s n v) = inherit t s n v
+machine_call (MapZero a) = map_pages a.task a.start a.pages zeros
+machine_call (MapObject a m q) = map_pages a.task a.start a.pages (page_of m q)
+machine_call (Unmap a) = unmap a.task a.start a.pages
+machine_call (Protect a v) = protect a.task a.start a.pages v
+machine_call (Inherit a v) = inherit a.task a.start a.pages v
 machine_call (Fork p c) = fork p c
 machine_call (Write t a bs) = write 32768 t a bs.now
 machine_call (Read t a n) = read 32768 t a n 256
@@ -99,10 +99,10 @@ machine_call (Exit t) = exit t
 machine_call Usage = usage
 
 -- a record that was read as an item
-abbrev pub item_of : Record → Item
-item_of (Given c) = call (machine_call c)
-item_of Malformed = malformed
-item_of CutShort = cut_short
+abbrev pub item_of : Result Command BadRecord → Item
+item_of (Ok c) = call (machine_call c)
+item_of (Err Malformed) = malformed
+item_of (Err CutShort) = cut_short
 
 -- a script at its end, which has no record
 pub record Ends (script : List ℕ) : Type 0 where
@@ -110,12 +110,6 @@ pub record Ends (script : List ℕ) : Type 0 where
   pub none : items script ≡ []
 
 -- a script begins with the record, and the rest, which is shorter, follows
-pub record Reads (script : List ℕ) (first : Record) (rest : List ℕ) : Type 0 where
+pub record Reads (script : List ℕ) (first : Result Command BadRecord) (rest : List ℕ) : Type 0 where
   pub begins : items script ≡ item_of first ∷ items rest
   pub shorter : length rest < length script
-
--- the n bytes of a record, and the script after them
-pub record Splits (n : ℕ) (script front back : List ℕ) : Type 0 where
-  pub fits : n ≤ length script
-  pub body : front ≡ take n script
-  pub after : back ≡ drop n script

@@ -1,13 +1,16 @@
 -- The transcript of a script: what the copying machine answers to its records, line by line.
-use Rattle.std.specs.Prelude.{◌≡◌, ℕ, suc, Bool, true, false, cond, List, [], ◌∷◌, ◌++◌, length, codes, nat_lt}
+use Rattle.std.specs.Prelude.{◌≡◌, ℕ, suc, Bool, true, false, cond, List, [], ◌∷◌, ◌++◌, length, codes, nat_lt, Ok, Err, Result}
 use Rattle.pagers.specs.Meaning.{Meaning}
 use Rattle.machine.specs.Calls.{Call, create, map_pages, unmap, protect, inherit, fork, write, read, exit, usage}
 use Rattle.machine.specs.State.{State, start}
 use Rattle.machine.specs.Step.{step}
 use Rattle.engine.specs.declared.engine.Engine.{Engine}
 use Rattle.engine.specs.Relation.{Represents, refusal, counted}
-use Rattle.scripts.specs.declared.console.Answer.{Answer as Given}
-use Rattle.scripts.specs.declared.console.Answer.TheVariants.{Done, Counts, Refused, Malformed, CutShort}
+use Rattle.scripts.specs.declared.reader.BadRecord.TheVariants.{Malformed, CutShort}
+use Rattle.scripts.specs.declared.console.Reply.{Reply}
+use Rattle.scripts.specs.declared.console.Reply.TheVariants.{Done, Counts}
+use Rattle.scripts.specs.declared.console.Trouble.{Trouble}
+use Rattle.scripts.specs.declared.console.Trouble.TheVariants.{Refused, BadRecord}
 use Rattle.scripts.specs.Records.{Item, call, malformed, cut_short, items}
 use Rattle.scripts.specs.Text.{Answer, replied, malformed as wrong, cut_short as short, line}
 use Rattle.machine.specs.Calls.{done}
@@ -51,14 +54,14 @@ abbrev pub printed_text : Meaning → List ℕ → List ℕ
 printed_text M input = cond (nat_lt 16384 (length input)) (codes "too long\n") (transcript_of M input)
 
 -- an answer of the program as the machine's
-abbrev pub answer_of : Given → Answer
-answer_of Done = replied done
-answer_of (Counts u) = replied (counted u)
-answer_of (Refused r) = replied (refusal r)
-answer_of Malformed = wrong
-answer_of CutShort = short
+abbrev pub answer_of : Result Reply Trouble → Answer
+answer_of (Ok Done) = replied done
+answer_of (Ok (Counts u)) = replied (counted u)
+answer_of (Err (Refused r)) = replied (refusal r)
+answer_of (Err (BadRecord Malformed)) = wrong
+answer_of (Err (BadRecord CutShort)) = short
 
 -- the program answered a record as the machine does, and its engine stands for the machine's next state
-pub record Answers (M : Meaning) (s : State) (i : Item) (a : Given) (e : Engine) : Type 0 where
+pub record Answers (M : Meaning) (s : State) (i : Item) (a : Result Reply Trouble) (e : Engine) : Type 0 where
   pub answer : answer_of a ≡ answered M s i
   pub next : Represents e (moved M s i)

@@ -1,86 +1,110 @@
 // A script performed on a new engine, and the text of what it answered.
-ghost use Rattle.std.specs.Prelude.{◌≡◌, ◌++◌, IfOk, string_bytes, OnOk};
-ghost use Rattle.engine.specs.Relation.{Represents, outcome};
+ghost use Rattle.std.specs.Prelude.{◌≡◌, ◌++◌, IfOk, string_bytes, decimal, OnOk, Err};
+ghost use Rattle.engine.specs.Relation.{Represents};
 ghost use Rattle.machine.specs.State.{State};
 ghost use Rattle.pagers.specs.Meaning.{Meaning};
 ghost use Rattle.scripts.specs.Records.{call as called, machine_call, item_of};
-ghost use Rattle.scripts.specs.Text.{line, replied};
+ghost use Rattle.scripts.specs.Text.{answer_text, line};
 ghost use Rattle.scripts.specs.Transcript.{Answers, answer_of, transcript_of, printed_text};
+ghost use Rattle.scripts.specs.declared.console.Trouble.TheVariants.{Refused, BadRecord};
 
 use crate::lines::{push_counts, push_plain};
-use crate::reader::{Command, Record, next_record};
+use crate::reader::{BadRecord, Command, Record, Records};
 use engine::{Engine, Refusal, Usage};
 use std::alloc::{AllocError, Global};
 
-// What a record is answered.
-#[derive(Clone, Copy)]
-pub enum Answer {
+// What a command that is accepted is answered.
+#[derive(Clone, Copy, Debug, PartialEq, Eq)]
+pub enum Reply {
     Done,
     Counts(Usage),
-    Refused(Refusal),
-    Malformed,
-    CutShort,
 }
 
-// The answer of a call that tells no more than whether it was accepted.
-fn bare(r: Result<(), Refusal>) -> Answer
-    ensures { answer_of result ≡ replied (outcome r) }
-{
-    match r {
-        Ok(()) => Answer::Done,
-        Err(refusal) => Answer::Refused(refusal),
+// Why a record is answered by a number alone: the engine refuses its command, or it is none.
+#[derive(Clone, Copy, Debug, PartialEq, Eq)]
+pub enum Trouble {
+    Refused(Refusal),
+    BadRecord(BadRecord),
+}
+
+// A refusal of the engine, handed on.
+impl From<Refusal> for Trouble {
+    ghost from_gives = { λ r t. t ≡ Refused r };
+
+    fn from(refusal: Refusal) -> Trouble {
+        Trouble::Refused(refusal)
+    }
+}
+
+// A record that is no command, handed on.
+impl From<BadRecord> for Trouble {
+    ghost from_gives = { λ r t. t ≡ BadRecord r };
+
+    fn from(bad: BadRecord) -> Trouble {
+        Trouble::BadRecord(bad)
+    }
+}
+
+// The number of the answer.
+impl From<Trouble> for u8 {
+    ghost from_gives = { λ t n. answer_text (answer_of (Err t)) ≡ decimal n };
+
+    fn from(trouble: Trouble) -> u8 {
+        match trouble {
+            Trouble::Refused(refusal) => refusal.into(),
+            Trouble::BadRecord(BadRecord::Malformed) => 13,
+            Trouble::BadRecord(BadRecord::CutShort) => 14,
+        }
     }
 }
 
 // Performs a command. A call that the engine does not have yet is answered like an unknown operation.
-fn call(engine: &mut Engine, command: Command) -> Answer
+#[tactic(auto, unfolding(crate::specs::Transcript::answered, crate::specs::Transcript::moved))]
+fn call(engine: &mut Engine, command: Command) -> Result<Reply, Trouble>
     ensures { (M : Meaning) (s : State) → Represents engine.old s → Answers M s (called (machine_call command.entry)) result engine.new }
 {
     match command {
-        Command::Create { task } => bare(engine.create(task)),
-        Command::Exit { task } => bare(engine.exit(task)),
-        Command::Usage => Answer::Counts(engine.usage()),
-        _ => Answer::Malformed,
+        Command::Create { task } => engine.create(task)?,
+        Command::Exit { task } => engine.exit(task)?,
+        Command::Usage => return Ok(Reply::Counts(engine.usage())),
+        _ => return Err(BadRecord::Malformed.into()),
     }
+    Ok(Reply::Done)
 }
 
 // Performs a record.
-fn perform(engine: &mut Engine, item: Record) -> Answer
-    ensures { (M : Meaning) (s : State) → Represents engine.old s → Answers M s (item_of item.entry) result engine.new }
+#[tactic(auto, unfolding(crate::specs::Transcript::answered, crate::specs::Transcript::moved))]
+fn perform(engine: &mut Engine, record: Record) -> Result<Reply, Trouble>
+    ensures { (M : Meaning) (s : State) → Represents engine.old s → Answers M s (item_of record.entry) result engine.new }
 {
-    match item {
-        Record::Command(command) => call(engine, command),
-        Record::Malformed => Answer::Malformed,
-        Record::CutShort => Answer::CutShort,
-    }
+    call(engine, record?)
 }
 
 // Appends the line of a record.
-fn push_line(out: &mut String, number: usize, answer: Answer) -> Result<(), AllocError>
+fn push_line(
+    out: &mut String,
+    number: usize,
+    answer: Result<Reply, Trouble>,
+) -> Result<(), AllocError>
     ensures { OnOk result (string_bytes out.new ≡ string_bytes out.old ++ line number (answer_of answer)) }
 {
     match answer {
-        Answer::Done => push_plain(out, number, 0),
-        Answer::Counts(u) => push_counts(out, number, [u.entries, u.records, u.marks, u.frames]),
-        Answer::Refused(refusal) => push_plain(out, number, refusal.number()),
-        Answer::Malformed => push_plain(out, number, 13),
-        Answer::CutShort => push_plain(out, number, 14),
+        Ok(Reply::Done) => push_plain(out, number, 0),
+        Ok(Reply::Counts(u)) => push_counts(out, number, [u.entries, u.records, u.marks, u.frames]),
+        Err(trouble) => push_plain(out, number, trouble.into()),
     }
 }
 
 // Performs a script on a new engine of 128 frames: a line for each record.
+#[tactic(auto, unfolding(crate::specs::Transcript::transcript_of))]
 pub fn transcript(heap: Global, script: &[u8]) -> Result<String, AllocError>
     ensures { IfOk result (λ t. (M : Meaning) → string_bytes t ≡ transcript_of M script.now) }
 {
     let mut engine = Engine::new(128);
     let mut out = String::new(heap);
-    let mut number = 1;
-    let mut rest = script;
-    while let Some((item, after)) = next_record(rest) {
-        let answer = perform(&mut engine, item);
-        push_line(&mut out, number, answer)?;
-        number += 1;
-        rest = after;
+    for (i, record) in Records(script).enumerate() {
+        let answer = perform(&mut engine, record);
+        push_line(&mut out, i + 1, answer)?;
     }
     Ok(out)
 }

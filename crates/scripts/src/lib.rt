@@ -7,4 +7,4 @@ mod reader;
 
 pub use console::{printed, transcript};
 pub use lines::{push_bytes, push_counts, push_numbers, push_plain};
-pub use reader::{Command, Record, count_records, next_record};
+pub use reader::{Area, BadRecord, Command, Record, Records, count_records, next_record};

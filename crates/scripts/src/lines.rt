@@ -1,51 +1,50 @@
 // The lines of a transcript: a record's number, the answer and what it carries.
-ghost use Rattle.std.specs.Prelude.{◌≡◌, ◌<◌, ◌++◌, IfOk, string_bytes, decimal, OnOk};
+// The number is the caller's, from the iterator over the records: in a struct beside the text it could not be given for a lone line.
+// An answer is given as its number, since a type of answers would take fewer of them than a u8.
+ghost use Rattle.std.specs.Prelude.{◌≡◌, ◌++◌, Some, string_bytes, decimal, OnOk};
 ghost use Rattle.machine.specs.Calls.{gives};
-ghost use Rattle.scripts.specs.Text.{Adds, after_space, answer_text, hex, line, replied, row, spaced, usage_answer};
+ghost use Rattle.scripts.specs.Text.{Adds, hex, line, replied, row, spaced, usage_answer};
 ghost use Rattle.std.specs.List.{flat_map};
-ghost use Rattle.std.specs.Char.{digit_char};
 
-use std::alloc::{AllocError, Global};
+use std::alloc::AllocError;
+use std::fmt;
+
+// Numbers, each printed after a space.
+#[derive(Clone, Copy)]
+struct Spaced<'a>(&'a [u32]);
+
+impl fmt::Display for Spaced<'_> {
+    ghost output = { λ s. Some (spaced s.0.now) };
+
+    fn fmt<W: fmt::Write>(&self, f: &mut fmt::Formatter<W>) -> fmt::Result {
+        for value in self.0 {
+            write!(f, " {value}")?;
+        }
+        Ok(())
+    }
+}
+
+// Bytes, printed in hexadecimal and joined. One type for these and the numbers would need a slice of wrapped items.
+#[derive(Clone, Copy)]
+struct Hex<'a>(&'a [u8]);
+
+impl fmt::Display for Hex<'_> {
+    ghost output = { λ h. Some (flat_map hex h.0.now) };
+
+    fn fmt<W: fmt::Write>(&self, f: &mut fmt::Formatter<W>) -> fmt::Result {
+        for &byte in self.0 {
+            write!(f, "{byte:02x}")?;
+        }
+        Ok(())
+    }
+}
 
 // Appends the line of an answer that is its number alone.
 pub fn push_plain(out: &mut String, number: usize, answer: u8) -> Result<(), AllocError>
     ensures text { OnOk result (string_bytes out.new ≡ string_bytes out.old ++ row number (decimal answer)) }
     ensures adds { OnOk result (Adds (string_bytes out.old) (string_bytes out.new) number (decimal answer)) }
 {
-    write!(out, "{number} {answer}\n").or(Err(AllocError))
-}
-
-// Appends the line of an answer with its text.
-fn push_row(out: &mut String, number: usize, text: &str) -> Result<(), AllocError>
-    ensures { OnOk result (string_bytes out.new ≡ string_bytes out.old ++ row number text.now) }
-{
-    write!(out, "{number} {text}\n").or(Err(AllocError))
-}
-
-// Appends a space and a number.
-fn push_number(out: &mut String, value: u32) -> Result<(), AllocError>
-    ensures { OnOk result (string_bytes out.new ≡ string_bytes out.old ++ after_space value) }
-{
-    write!(out, " {value}").or(Err(AllocError))
-}
-
-// Appends numbers, each after a space.
-fn push_spaced(out: &mut String, values: &[u32]) -> Result<(), AllocError>
-    ensures { OnOk result (string_bytes out.new ≡ string_bytes out.old ++ spaced values.now) }
-{
-    for value in values {
-        push_number(out, *value)?;
-    }
-    Ok(())
-}
-
-// The text of an answer that carries numbers.
-fn numbers_text(heap: Global, answer: u8, carried: &[u32]) -> Result<String, AllocError>
-    ensures { IfOk result (λ t. string_bytes t ≡ decimal answer ++ spaced carried.now) }
-{
-    let mut text = format!(in heap; "{answer}")?;
-    push_spaced(&mut text, carried)?;
-    Ok(text)
+    write!(out, "{number} {answer}\n")
 }
 
 // Appends the line of an answer that carries numbers.
@@ -58,72 +57,22 @@ pub fn push_numbers(
     ensures text { OnOk result (string_bytes out.new ≡ string_bytes out.old ++ row number (decimal answer ++ spaced carried.now)) }
     ensures adds { OnOk result (Adds (string_bytes out.old) (string_bytes out.new) number (decimal answer ++ spaced carried.now)) }
 {
-    let text = numbers_text(*out.allocator(), answer, carried)?;
-    push_row(out, number, &text)
-}
-
-// The text of the answer to usage.
-fn usage_text(heap: Global, counts: [u32; 4]) -> Result<String, AllocError>
-    ensures { IfOk result (λ t. string_bytes t ≡ answer_text (usage_answer counts)) }
-{
-    let text = numbers_text(heap, 0, &counts)?;
-    Ok(text)
+    let carried = Spaced(carried);
+    write!(out, "{number} {answer}{carried}\n")
 }
 
 // Appends the line of a usage, with the numbers of entries, sharing records, marks and frames.
 pub fn push_counts(out: &mut String, number: usize, counts: [u32; 4]) -> Result<(), AllocError>
     ensures { OnOk result (string_bytes out.new ≡ string_bytes out.old ++ line number (usage_answer counts)) }
 {
-    let text = usage_text(*out.allocator(), counts)?;
-    push_row(out, number, &text)
-}
-
-// The hexadecimal digit of a number below 16.
-fn hex_digit(value: u8) -> char
-    requires { value < 16 }
-    ensures digit { result ≡ digit_char value }
-    ensures ascii { result < 128 }
-{
-    if value < 10 {
-        char::from(b'0' + value)
-    } else {
-        char::from(b'a' + (value - 10))
-    }
-}
-
-// Appends a byte in hexadecimal.
-fn push_hex(out: &mut String, byte: u8) -> Result<(), AllocError>
-    ensures { OnOk result (string_bytes out.new ≡ string_bytes out.old ++ hex byte) }
-{
-    out.push(hex_digit(byte / 16))?;
-    out.push(hex_digit(byte % 16))?;
-    Ok(())
-}
-
-// Appends bytes in hexadecimal, joined.
-fn push_joined(out: &mut String, bytes: &[u8]) -> Result<(), AllocError>
-    ensures { OnOk result (string_bytes out.new ≡ string_bytes out.old ++ flat_map hex bytes.now) }
-{
-    for byte in bytes {
-        push_hex(out, *byte)?;
-    }
-    Ok(())
-}
-
-// The text of the answer to a read that gave the bytes.
-fn bytes_text(heap: Global, bytes: &[u8]) -> Result<String, AllocError>
-    ensures { IfOk result (λ t. string_bytes t ≡ answer_text (replied (gives bytes.now))) }
-{
-    let done: u8 = 0;
-    let mut text = format!(in heap; "{done} ")?;
-    push_joined(&mut text, bytes)?;
-    Ok(text)
+    push_numbers(out, number, 0, &counts)
 }
 
 // Appends the line of a read that gave the bytes.
+#[tactic(auto, using(std::proofs::lemmas::Fmt::decimal_digit))]
 pub fn push_bytes(out: &mut String, number: usize, bytes: &[u8]) -> Result<(), AllocError>
     ensures { OnOk result (string_bytes out.new ≡ string_bytes out.old ++ line number (replied (gives bytes.now))) }
 {
-    let text = bytes_text(*out.allocator(), bytes)?;
-    push_row(out, number, &text)
+    let bytes = Hex(bytes);
+    write!(out, "{number} 0 {bytes}\n")
 }

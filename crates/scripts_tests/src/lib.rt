@@ -4,8 +4,8 @@
 #[cfg(test)]
 mod tests {
     use scripts::{
-        Command, Record, count_records, next_record, printed, push_bytes, push_counts,
-        push_numbers, push_plain,
+        Area, BadRecord, Command, Record, Records, count_records, next_record, printed, push_bytes,
+        push_counts, push_numbers, push_plain,
     };
     use std::test::Fail;
 
@@ -15,80 +15,78 @@ mod tests {
         0xaa, 0, 8, 9, 2, 0, 0, 4, 0, 0, 1, 0, 8, 9, 1, 0, 0, 4, 0, 0, 2, 0, 1, 11,
     ];
 
-    // A record's operation; 13 for a malformed one, 14 for one that is cut short.
-    fn kind(record: Record) -> u8 {
-        match record {
-            Record::Command(Command::Create { .. }) => 1,
-            Record::Command(Command::MapZero { .. }) => 2,
-            Record::Command(Command::MapObject { .. }) => 3,
-            Record::Command(Command::Unmap { .. }) => 4,
-            Record::Command(Command::Protect { .. }) => 5,
-            Record::Command(Command::Inherit { .. }) => 6,
-            Record::Command(Command::Fork { .. }) => 7,
-            Record::Command(Command::Write { .. }) => 8,
-            Record::Command(Command::Read { .. }) => 9,
-            Record::Command(Command::Exit { .. }) => 10,
-            Record::Command(Command::Usage) => 11,
-            Record::Malformed => 13,
-            Record::CutShort => 14,
-        }
-    }
+    // A record of an unknown operation or a wrong length, and one that is cut short.
+    const MALFORMED: Record<'static> = Err(BadRecord::Malformed);
 
-    // The script has records of these kinds and no other.
-    fn reads(script: &[u8], kinds: &[u8]) -> bool {
-        let mut rest = script;
-        for expected in kinds {
-            match next_record(rest) {
-                Some((record, after)) => {
-                    if kind(record) != *expected {
-                        return false;
-                    }
-                    rest = after;
-                }
-                None => return false,
-            }
-        }
-        rest.is_empty()
+    const CUT_SHORT: Record<'static> = Err(BadRecord::CutShort);
+
+    // A fork of task 1 into task 2.
+    const FORK: Record<'static> = Ok(Command::Fork {
+        parent: 1,
+        child: 2,
+    });
+
+    // The script has these records and no other.
+    fn reads(script: &[u8], records: &[Record]) -> bool {
+        Records(script).eq(records.iter().copied())
     }
 
     #[test]
     fn sample(rt: HostRuntime) {
-        assert!(rt; reads(&SAMPLE, &[1, 3, 7, 8, 9, 9, 11]));
+        let records = [
+            Ok(Command::Create { task: 1 }),
+            Ok(Command::MapObject {
+                area: Area {
+                    task: 1,
+                    start: 4,
+                    pages: 2,
+                },
+                object: 0,
+                first: 2,
+            }),
+            FORK,
+            Ok(Command::Write {
+                task: 1,
+                address: 1024,
+                bytes: &[0xaa],
+            }),
+            Ok(Command::Read {
+                task: 2,
+                address: 1024,
+                count: 1,
+            }),
+            Ok(Command::Read {
+                task: 1,
+                address: 1024,
+                count: 2,
+            }),
+            Ok(Command::Usage),
+        ];
+        assert!(rt; reads(&SAMPLE, &records));
         assert_eq!(rt; count_records(&SAMPLE), 7);
     }
 
     #[test]
     fn fields(rt: HostRuntime) {
         let map = [0, 10, 3, 1, 0, 4, 1, 2, 0, 5, 0, 6];
-        assert!(rt;
-            matches!(
-                next_record(&map),
-                Some((
-                    Record::Command(Command::MapObject {
-                        task: 1,
-                        start: 4,
-                        pages: 258,
-                        object: 5,
-                        first: 6
-                    }),
-                    []
-                ))
-            )
-        );
+        let area = Area {
+            task: 1,
+            start: 4,
+            pages: 258,
+        };
+        let mapped = Command::MapObject {
+            area,
+            object: 5,
+            first: 6,
+        };
+        assert!(rt; next_record(&map) == Some((Ok(mapped), &[])));
         let write = [0, 7, 8, 9, 1, 2, 3, 4, 0xaa, 0];
-        assert!(rt;
-            matches!(
-                next_record(&write),
-                Some((
-                    Record::Command(Command::Write {
-                        task: 9,
-                        address: 0x01020304,
-                        bytes: [0xaa]
-                    }),
-                    [0]
-                ))
-            )
-        );
+        let written = Command::Write {
+            task: 9,
+            address: 0x01020304,
+            bytes: &[0xaa],
+        };
+        assert!(rt; next_record(&write) == Some((Ok(written), &[0])));
     }
 
     #[test]
@@ -96,24 +94,29 @@ mod tests {
         let fork = [0, 3, 7, 1, 2];
         assert!(rt; reads(&[], &[]));
         for n in 1..5 {
-            assert!(rt; reads(&fork[0..n], &[14]));
+            assert!(rt; reads(&fork[0..n], &[CUT_SHORT]));
         }
-        assert!(rt; reads(&fork, &[7]));
-        assert!(rt; reads(&[0, 1, 11, 255, 255, 12], &[11, 14]));
+        assert!(rt; reads(&fork, &[FORK]));
+        assert!(rt; reads(&[0, 1, 11, 255, 255, 12], &[Ok(Command::Usage), CUT_SHORT]));
     }
 
     #[test]
     fn malformed(rt: HostRuntime) {
-        assert!(rt; reads(&[0, 0], &[13]));
-        assert!(rt; reads(&[0, 0, 0, 1, 11], &[13, 11]));
-        assert!(rt; reads(&[0, 1, 0, 0, 1, 12, 0, 1, 255], &[13, 13, 13]));
+        assert!(rt; reads(&[0, 0], &[MALFORMED]));
+        assert!(rt; reads(&[0, 0, 0, 1, 11], &[MALFORMED, Ok(Command::Usage)]));
+        assert!(rt; reads(&[0, 1, 0, 0, 1, 12, 0, 1, 255], &[MALFORMED; 3]));
         assert!(rt;
             reads(
                 &[0, 1, 1, 0, 3, 1, 1, 1, 0, 2, 11, 0, 0, 2, 10, 1],
-                &[13, 13, 13, 10],
+                &[
+                    MALFORMED,
+                    MALFORMED,
+                    MALFORMED,
+                    Ok(Command::Exit { task: 1 })
+                ],
             )
         );
-        assert!(rt; reads(&[0, 6, 8, 1, 0, 0, 4, 0], &[13]));
+        assert!(rt; reads(&[0, 6, 8, 1, 0, 0, 4, 0], &[MALFORMED]));
     }
 
     #[test]
@@ -122,12 +125,17 @@ mod tests {
         most[0] = 1;
         most[1] = 6;
         most[2] = 8;
-        assert!(rt; reads(&most, &[8]));
+        let written = Command::Write {
+            task: 0,
+            address: 0,
+            bytes: &[0; 256],
+        };
+        assert!(rt; reads(&most, &[Ok(written)]));
         let mut over = [0u8; 265];
         over[0] = 1;
         over[1] = 7;
         over[2] = 8;
-        assert!(rt; reads(&over, &[13]));
+        assert!(rt; reads(&over, &[MALFORMED]));
     }
 
     #[test]

@@ -1,30 +1,18 @@
-use Rattle.std.proofs.Common.{◌<◌, true, false, length, refl, rules}
-use Rattle.std.proofs.lemmas.Bool.{both_ways}
+use Rattle.std.proofs.Common.{true, false, refl, rules}
 use Rattle.std.proofs.lemmas.Result.{err_from_is_err_and}
-use Rattle.machine.specs.Step.{step, with_task}
-use Rattle.engine.proofs.Tasks.{stands_put}
-use Rattle.engine.proofs.Places.{exit_refused, exit_made}
-use Rattle.engine.proofs.Relation.{follows, refused_follows}
+use Rattle.machine.specs.Step.{step}
+use Rattle.engine.specs.declared.engine.Refusal.TheVariants.{NoTask}
+use Rattle.engine.proofs.Places.{exit_told}
+use Rattle.engine.proofs.Relation.{refused_follows, placed_follows}
 use Rattle.engine.proofs.engine.Engine.exit.Goals as goal
 
-pub returns-in_err-at : goal.returns-in_err-at
+pub returns-in_err-at-clause-machine : goal.returns-in_err-at-clause-machine
 unfolding step
-returns-in_err-at c =
+returns-in_err-at-clause-machine c M s h =
     let p = err_from_is_err_and c.from_residual.result c.from_residual.ensures.1 in
-    record {
-      refusal = λ e. refl;
-      machine = λ M s h. refused_follows M s _ _ _ _ _ p.1 p.2 (exit_refused _ s c.args.task h.tasks _ c.in_err-at.ensures.value) h;
-    }
+    refused_follows M s _ _ _ _ _ _ _ p.1 p.2 c.in_err-at.ensures.value (exit_told _ s c.args.task h.tasks) h
 
-pub returns : goal.returns
-unfolding step with_task
-returns c =
-    let k = c.in_ok-at.at in
-    let lt : k < length c.args.self.now.living = search rules in
-    record {
-      refusal = λ e. absurd (both_ways true e refl);
-      machine = λ M s h.
-          let does = exit_made _ s c.args.task h.tasks k c.in_ok-at.ensures.value in
-          follows M s _ _ _ _ does.1
-          (record { frames = h.frames; tasks = stands_put _ s c.args.task k false h.tasks does.0 lt });
-    }
+pub returns-clause-machine : goal.returns-clause-machine
+unfolding step
+returns-clause-machine c M s h =
+    placed_follows M s _ c.args.self.now _ c.args.task c.in_ok-at.at true false NoTask c.in_ok-at.ensures.value (exit_told _ s c.args.task h.tasks) (search rules) refl refl h

@@ -1,7 +1,6 @@
-use Rattle.std.proofs.Common.{sym, ap, ◌∙◌}
+use Rattle.std.proofs.Common.{ap, ◌∙◌, sym}
 use Rattle.machine.specs.Calls.{counts}
 use Rattle.machine.specs.Step.{step}
-use Rattle.engine.specs.Relation.{counted}
 use Rattle.engine.proofs.Tasks.{no_counts}
 use Rattle.engine.proofs.Relation.{follows}
 use Rattle.engine.proofs.engine.Engine.usage.Goals as goal
@@ -9,4 +8,4 @@ use Rattle.engine.proofs.engine.Engine.usage.Goals as goal
 pub returns : goal.returns
 unfolding step
 returns c M s h =
-    follows M s _ _ _ s (no_counts _ s h.tasks ∙ ap (λ f. record { reply = counts 0 0 0 f; next = s }) h.frames ∙ ap (λ u. record { reply = counted u; next = s }) (sym c.without_entries.ensures)) h
+    follows M s _ _ _ s (no_counts _ s h.tasks ∙ ap (λ f. record { reply = counts 0 0 0 f; next = s }) (h.frames ∙ sym c.from.ensures)) h
