@@ -20,9 +20,7 @@ abbrev pub entry_shape : Shape Entry
 entry_shape = record {
   first = λ e. e.first;
   pages = λ e. e.pages;
-  front = λ p e. part e.first (p - e.first) e;
-  back = λ p e. part p (e.first + e.pages - p) e;
-  one = λ p e. part p 1 e;
+  part = part;
   fits = λ e. nat_le (e.index + e.pages) 4096;
 }
 

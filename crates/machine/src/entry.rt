@@ -18,28 +18,11 @@ impl Element for Entry {
         self.pages
     }
 
-    fn front(&self, page: u16) -> Entry {
+    fn part(&self, first: u16, pages: u16) -> Entry {
         Entry {
-            pages: page - self.first,
-            ..*self
-        }
-    }
-
-    fn back(&self, page: u16) -> Entry {
-        let skipped = page - self.first;
-        Entry {
-            first: page,
-            pages: self.pages - skipped,
-            index: self.index + skipped,
-            ..*self
-        }
-    }
-
-    fn one(&self, page: u16) -> Entry {
-        Entry {
-            first: page,
-            pages: 1,
-            index: self.index + (page - self.first),
+            first,
+            pages,
+            index: self.index + (first - self.first),
             ..*self
         }
     }

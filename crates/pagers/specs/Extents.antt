@@ -18,9 +18,7 @@ abbrev pub extent_shape : Shape Extent
 extent_shape = record {
   first = λ e. e.first;
   pages = λ e. e.pages;
-  front = λ p e. extent e.first (p - e.first) e.position;
-  back = λ p e. extent p (e.pages - (p - e.first)) (position_of p e);
-  one = λ p e. extent p 1 (position_of p e);
+  part = λ p n e. extent p n (position_of p e);
   fits = λ e. nat_lt (e.position + 256 * e.pages) (2 ^ 64);
 }
 
@@ -30,10 +28,10 @@ extent_laws = record {
   front_first = λ e p above below. refl;
   front_pages = λ e p above below. refl;
   back_first = λ e p above below. refl;
-  back_pages = λ e p above below. omega arith;
+  back_pages = λ e p above below. refl;
   front_fits = λ e p fits above below. lt-ltb _ _ (omega (arith, ltb-true _ _ fits));
   back_fits = λ e p fits above below. lt-ltb _ _ (omega (arith, ltb-true _ _ fits));
-  front_says = λ e p q from below within. refl;
+  front_says = λ e p q from below within. ap (extent q 1) (omega arith);
   back_says = λ e p q above from below. ap (extent q 1) (omega arith);
   one_first = λ e q. refl;
   one_pages = λ e q. refl;

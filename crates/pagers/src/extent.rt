@@ -24,28 +24,11 @@ impl Element for Extent {
         self.pages
     }
 
-    fn front(&self, page: u16) -> Extent {
+    fn part(&self, first: u16, pages: u16) -> Extent {
         Extent {
-            pages: page - self.first,
-            ..*self
-        }
-    }
-
-    fn back(&self, page: u16) -> Extent {
-        let skipped = page - self.first;
-        Extent {
-            first: page,
-            pages: self.pages - skipped,
-            position: self.position + 256 * u64::from(skipped),
-        }
-    }
-
-    fn one(&self, page: u16) -> Extent {
-        let skipped = page - self.first;
-        Extent {
-            first: page,
-            pages: 1,
-            position: self.position + 256 * u64::from(skipped),
+            first,
+            pages,
+            position: self.position + 256 * u64::from(first - self.first),
         }
     }
 }

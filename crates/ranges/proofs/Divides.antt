@@ -3,7 +3,7 @@ use Rattle.std.proofs.Common.{cond, is_some, Some, None, Option, MatchOption, �
 use Rattle.std.proofs.lemmas.List.{length-set, length-append, length-drop, length-take-le, take-take, take_more_set, drop-set-lt, drop-drop, get_or-take, get_or-drop, get_or_default, take_all, flat_map_more}
 use Rattle.std.proofs.lemmas.Slice.{between_is}
 use Rattle.std.proofs.lemmas.Bool.{cases_lt}
-use Rattle.ranges.specs.Shape.{Shape, end, proper}
+use Rattle.ranges.specs.Shape.{Shape, end, proper, front_of, back_of}
 use Rattle.ranges.specs.Tables.{trimmed, removed, cut, rising}
 use Rattle.ranges.specs.Places.{Apart, Around}
 use Rattle.ranges.proofs.Facts.{Rising, rising_facts}
@@ -22,12 +22,12 @@ module _ {E : Type 0} (S : Shape E) where
       ap (λ t. t ++ removed S f g es) (trimmed_right S f g e up.0 le (omega arith))
       ∙ ap (λ t. e ∷ t) (removed_above (end S e) f g es up.2 le (omega arith))
 
-  removed_around : (n f g i : ℕ) (es : List E) (e : E) → Rising S n es → f ≤ g → i < length es → e ≡ get_or es i e → S.first e < f → g < end S e → removed S f g es ≡ take i es ++ S.front f e ∷ (S.back g e ∷ drop (suc i) es)
+  removed_around : (n f g i : ℕ) (es : List E) (e : E) → Rising S n es → f ≤ g → i < length es → e ≡ get_or es i e → S.first e < f → g < end S e → removed S f g es ≡ take i es ++ front_of S f e ∷ (back_of S g e ∷ drop (suc i) es)
   removed_around n f g i [] e up le l read a b = absurd (omega arith)
   removed_around n f g zero (x ∷ xs) e up le l read a b =
       ap (λ y. trimmed S f g y ++ removed S f g xs) (sym read)
       ∙ ap (λ t. t ++ removed S f g xs) (trimmed_around S f g e le a b)
-      ∙ ap (λ t. S.front f e ∷ (S.back g e ∷ t)) (removed_above (end S x) f g xs up.2 le (omega (arith, ap (end S) read)))
+      ∙ ap (λ t. front_of S f e ∷ (back_of S g e ∷ t)) (removed_above (end S x) f g xs up.2 le (omega (arith, ap (end S) read)))
   removed_around n f g (suc i) (x ∷ xs) e up le l read a b =
       let low : end S x ≤ S.first e = subst (λ y. end S x ≤ S.first y) (sym read) (first_at (end S x) i xs e up.2 (omega arith)) in
       ap (λ t. t ++ removed S f g xs) (trimmed_left S f g x up.0 le (omega arith))
@@ -54,7 +54,7 @@ module _ {E : Type 0} (S : Shape E) where
         good = proper_read S (take len xs) at e place.0 here 0 up;
       }
 
-  around_is : (f g at : ℕ) (T : List E) (e : E) → rising S 0 T ≡ true → f ≤ g → at < length T → e ≡ get_or T at e → S.first e < f → g < end S e → removed S f g T ≡ take at T ++ S.front f e ∷ (S.back g e ∷ drop (at + 1) T)
+  around_is : (f g at : ℕ) (T : List E) (e : E) → rising S 0 T ≡ true → f ≤ g → at < length T → e ≡ get_or T at e → S.first e < f → g < end S e → removed S f g T ≡ take at T ++ front_of S f e ∷ (back_of S g e ∷ drop (at + 1) T)
   around_is f g at T e up le l read a b =
       rw (add-one at) (removed_around 0 f g at T e (rising_facts S 0 T up) le l read a b)
 
@@ -64,11 +64,11 @@ module _ {E : Type 0} (S : Shape E) where
       count : (T : List E) (at : ℕ) (a b : E) → at < length T → length (take at T ++ a ∷ (b ∷ drop (at + 1) T)) ≡ length T + 1
       count T at a b l = length-append (take at T) (a ∷ (b ∷ drop (at + 1) T)) ∙ omega (arith, length-take-le at T (omega arith), length-drop (at + 1) T)
 
-      by_row : (T : List E) (at : ℕ) → at < length T → ((e : E) → e ≡ get_or T at e → removed S f g T ≡ take at T ++ S.front f e ∷ (S.back g e ∷ drop (at + 1) T)) → length (removed S f g T) ≡ length T + 1
+      by_row : (T : List E) (at : ℕ) → at < length T → ((e : E) → e ≡ get_or T at e → removed S f g T ≡ take at T ++ front_of S f e ∷ (back_of S g e ∷ drop (at + 1) T)) → length (removed S f g T) ≡ length T + 1
       by_row [] at l is = absurd (omega arith)
       by_row (x ∷ xs) at l is = ap length (is (get_or (x ∷ xs) at x) (get_or_default (x ∷ xs) at x _ l)) ∙ count (x ∷ xs) at _ _ l
 
-  pub divide_is : (xs ys : List E) (len at f g : ℕ) (e fr bk : E) → len ≤ length xs → rising S 0 (take len xs) ≡ true → f ≤ g → Row xs len at f g e → fr ≡ S.front f e → bk ≡ S.back g e → take (len + 1) ys ≡ take (at + 1) (take len (set xs at fr)) ++ bk ∷ drop (at + 1) (take len (set xs at fr)) → take (len + 1) ys ≡ removed S f g (take len xs)
+  pub divide_is : (xs ys : List E) (len at f g : ℕ) (e fr bk : E) → len ≤ length xs → rising S 0 (take len xs) ≡ true → f ≤ g → Row xs len at f g e → fr ≡ front_of S f e → bk ≡ back_of S g e → take (len + 1) ys ≡ take (at + 1) (take len (set xs at fr)) ++ bk ∷ drop (at + 1) (take len (set xs at fr)) → take (len + 1) ys ≡ removed S f g (take len xs)
   divide_is xs ys len at f g e fr bk within up le row front back moved =
       let long : length (take len xs) ≡ len = length-take-le len xs within in
       let low = row.inside in
@@ -79,7 +79,7 @@ module _ {E : Type 0} (S : Shape E) where
       ∙ ap (λ t. (take at (take len xs) ++ fr ∷ []) ++ bk ∷ t) tail
       ∙ append_assoc (take at (take len xs)) (fr ∷ []) (bk ∷ drop (at + 1) (take len xs))
       ∙ ap (λ y. take at (take len xs) ++ y ∷ (bk ∷ drop (at + 1) (take len xs))) front
-      ∙ ap (λ y. take at (take len xs) ++ S.front f e ∷ (y ∷ drop (at + 1) (take len xs))) back
+      ∙ ap (λ y. take at (take len xs) ++ front_of S f e ∷ (y ∷ drop (at + 1) (take len xs))) back
       ∙ sym (around_is f g at (take len xs) e up le (omega arith) row.read row.below row.above)
 
   -- a cut that no element lies around changes nothing

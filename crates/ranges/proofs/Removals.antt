@@ -1,27 +1,27 @@
 -- A table without some pages: what it says, and that it rises.
 use Rattle.std.proofs.Common.{◌≡◌, ℕ, ◌<◌, ◌≤◌, cond, ◌⊎◌, List, [], ◌∷◌, ◌++◌, Some, None, sym, refl, ap, ◌∙◌, inl, inr, ⊎_elim, arith}
 use Rattle.std.proofs.lemmas.Bool.{and_from, and_left, and_right, lt-ltb, le-ltb, le-leb, lt-leb, cond-true, cond-false, cases_lt}
-use Rattle.ranges.specs.Shape.{Shape, Laws, end, holds}
+use Rattle.ranges.specs.Shape.{Shape, Laws, end, holds, front_of, back_of, one_of}
 use Rattle.ranges.specs.Tables.{said, removed, cut}
 use Rattle.ranges.specs.Says.{Removes, Keeps}
 use Rattle.ranges.proofs.Facts.{Proper, Rising, rising_lower, said_here, said_past}
 use Rattle.ranges.proofs.Trims.{Trim, left, right, around, over_first, over_last, inside, trim}
 
 module _ {E : Type 0} (S : Shape E) (L : Laws S) where
-  pub front_end : (e : E) (p : ℕ) → S.first e < p → p < end S e → end S (S.front p e) ≡ p
+  pub front_end : (e : E) (p : ℕ) → S.first e < p → p < end S e → end S (front_of S p e) ≡ p
   front_end e p a b = omega (arith, L.front_first e p a b, L.front_pages e p a b)
 
-  pub back_end : (e : E) (p : ℕ) → S.first e < p → p < end S e → end S (S.back p e) ≡ end S e
+  pub back_end : (e : E) (p : ℕ) → S.first e < p → p < end S e → end S (back_of S p e) ≡ end S e
   back_end e p a b = omega (arith, L.back_first e p a b, L.back_pages e p a b)
 
-  pub front_proper : (e : E) (p : ℕ) → Proper S e → S.first e < p → p < end S e → Proper S (S.front p e)
+  pub front_proper : (e : E) (p : ℕ) → Proper S e → S.first e < p → p < end S e → Proper S (front_of S p e)
   front_proper e p ok a b = record {
     some = omega (arith, L.front_pages e p a b);
     within = omega (arith, front_end e p a b, ok.within);
     kept = L.front_fits e p ok.kept a b;
   }
 
-  pub back_proper : (e : E) (p : ℕ) → Proper S e → S.first e < p → p < end S e → Proper S (S.back p e)
+  pub back_proper : (e : E) (p : ℕ) → Proper S e → S.first e < p → p < end S e → Proper S (back_of S p e)
   back_proper e p ok a b = record {
     some = omega (arith, L.back_pages e p a b);
     within = omega (arith, back_end e p a b, ok.within);
@@ -29,19 +29,19 @@ module _ {E : Type 0} (S : Shape E) (L : Laws S) where
   }
 
   -- what a part says is what the whole says
-  said_front : (p q : ℕ) (e : E) (r : List E) → S.first e < p → p < end S e → S.first e ≤ q → q < p → said S q (S.front p e ∷ r) ≡ Some (S.one q e)
+  said_front : (p q : ℕ) (e : E) (r : List E) → S.first e < p → p < end S e → S.first e ≤ q → q < p → said S q (front_of S p e ∷ r) ≡ Some (one_of S q e)
   said_front p q e r a b from below =
       said_here S q _ r (omega (arith, L.front_first e p a b)) (omega (arith, front_end e p a b)) ∙ ap Some (L.front_says e p q from below b)
 
-  said_back : (p q : ℕ) (e : E) (r : List E) → S.first e < p → p < end S e → p ≤ q → q < end S e → said S q (S.back p e ∷ r) ≡ Some (S.one q e)
+  said_back : (p q : ℕ) (e : E) (r : List E) → S.first e < p → p < end S e → p ≤ q → q < end S e → said S q (back_of S p e ∷ r) ≡ Some (one_of S q e)
   said_back p q e r a b from below =
       said_here S q _ r (omega (arith, L.back_first e p a b)) (omega (arith, back_end e p a b)) ∙ ap Some (L.back_says e p q a from below)
 
-  past_front : (p q : ℕ) (e : E) (r : List E) → S.first e < p → p < end S e → (q < S.first e) ⊎ (p ≤ q) → said S q (S.front p e ∷ r) ≡ said S q r
+  past_front : (p q : ℕ) (e : E) (r : List E) → S.first e < p → p < end S e → (q < S.first e) ⊎ (p ≤ q) → said S q (front_of S p e ∷ r) ≡ said S q r
   past_front p q e r a b out =
       said_past S q _ r (⊎_elim (λ h. inl (omega (arith, L.front_first e p a b))) (λ h. inr (omega (arith, front_end e p a b))) out)
 
-  past_back : (p q : ℕ) (e : E) (r : List E) → S.first e < p → p < end S e → (q < p) ⊎ (end S e ≤ q) → said S q (S.back p e ∷ r) ≡ said S q r
+  past_back : (p q : ℕ) (e : E) (r : List E) → S.first e < p → p < end S e → (q < p) ⊎ (end S e ≤ q) → said S q (back_of S p e ∷ r) ≡ said S q r
   past_back p q e r a b out =
       said_past S q _ r (⊎_elim (λ h. inl (omega (arith, L.back_first e p a b))) (λ h. inr (omega (arith, back_end e p a b))) out)
 
@@ -51,13 +51,13 @@ module _ {E : Type 0} (S : Shape E) (L : Laws S) where
   trim_keeps q r le out (right a) = refl
   trim_keeps {f} {g} {e} q r le out (around a b) =
       elim (cases_lt q (S.first e)) [
-        | inl h ↦ past_front f q e (S.back g e ∷ r) a (omega arith) (inl h) ∙ past_back g q e r (omega arith) b (inl (omega arith)) ∙ sym (said_past S q e r (inl h))
+        | inl h ↦ past_front f q e (back_of S g e ∷ r) a (omega arith) (inl h) ∙ past_back g q e r (omega arith) b (inl (omega arith)) ∙ sym (said_past S q e r (inl h))
         | inr h ↦ elim (cases_lt q (end S e)) [
           | inl k ↦ ⊎_elim
-              (λ m. said_front f q e (S.back g e ∷ r) a (omega arith) h m ∙ sym (said_here S q e r h k))
-              (λ m. past_front f q e (S.back g e ∷ r) a (omega arith) (inr (omega arith)) ∙ said_back g q e r (omega arith) b m k ∙ sym (said_here S q e r h k))
+              (λ m. said_front f q e (back_of S g e ∷ r) a (omega arith) h m ∙ sym (said_here S q e r h k))
+              (λ m. past_front f q e (back_of S g e ∷ r) a (omega arith) (inr (omega arith)) ∙ said_back g q e r (omega arith) b m k ∙ sym (said_here S q e r h k))
               out
-          | inr k ↦ past_front f q e (S.back g e ∷ r) a (omega arith) (inr (omega arith)) ∙ past_back g q e r (omega arith) b (inr k) ∙ sym (said_past S q e r (inr k))
+          | inr k ↦ past_front f q e (back_of S g e ∷ r) a (omega arith) (inr (omega arith)) ∙ past_back g q e r (omega arith) b (inr k) ∙ sym (said_past S q e r (inr k))
         ]
       ]
   trim_keeps {f} {g} {e} q r le out (over_first a b d) =
@@ -84,7 +84,7 @@ module _ {E : Type 0} (S : Shape E) (L : Laws S) where
   trim_silent {f} {g} {e} q r from below (left a) = said_past S q e r (inr (omega arith))
   trim_silent {f} {g} {e} q r from below (right a) = said_past S q e r (inl (omega arith))
   trim_silent {f} {g} {e} q r from below (around a b) =
-      past_front f q e (S.back g e ∷ r) a (omega arith) (inr from) ∙ past_back g q e r (omega arith) b (inl below)
+      past_front f q e (back_of S g e ∷ r) a (omega arith) (inr from) ∙ past_back g q e r (omega arith) b (inl below)
   trim_silent {f} {g} {e} q r from below (over_first a b d) = past_front f q e r a b (inr from)
   trim_silent {f} {g} {e} q r from below (over_last a b d) = past_back g q e r b d (inl below)
   trim_silent q r from below (inside a b) = refl
@@ -110,7 +110,7 @@ module _ {E : Type 0} (S : Shape E) (L : Laws S) where
   trim_rises {f} {g} {e} n r le ok from up (inside a b) = rising_lower S _ _ r (omega arith) up
 
   said_tail : (q : ℕ) (e : E) (xs ys : List E) → said S q xs ≡ said S q ys → said S q (e ∷ xs) ≡ said S q (e ∷ ys)
-  said_tail q e xs ys h = ap (cond (holds S q e) (Some (S.one q e))) h
+  said_tail q e xs ys h = ap (cond (holds S q e) (Some (one_of S q e))) h
 
   removed_keeps : (n f g q : ℕ) (es : List E) → Rising S n es → f ≤ g → (q < f) ⊎ (g ≤ q) → said S q (removed S f g es) ≡ said S q es
   removed_keeps n f g q [] up le out = refl

@@ -1,7 +1,7 @@
 -- What is left of an element without some pages, in six cases, and of a table.
 use Rattle.std.proofs.Common.{◌≡◌, ℕ, ◌<◌, ◌≤◌, List, [], ◌∷◌, ◌++◌, ap, ◌∙◌, inl, inr, arith}
 use Rattle.std.proofs.lemmas.Bool.{lt-ltb, le-ltb, le-leb, lt-leb, cond-true, cond-false, cases_lt}
-use Rattle.ranges.specs.Shape.{Shape, end}
+use Rattle.ranges.specs.Shape.{Shape, end, front_of, back_of}
 use Rattle.ranges.specs.Tables.{before, since, trimmed}
 use Rattle.ranges.proofs.Facts.{Proper}
 
@@ -9,16 +9,16 @@ use Rattle.ranges.proofs.Facts.{Proper}
 pub data Trim {E : Type 0} (S : Shape E) (f g : ℕ) (e : E) : List E → Type 0 where
   left : end S e ≤ f → Trim S f g e (e ∷ [])
   right : g ≤ S.first e → Trim S f g e (e ∷ [])
-  around : S.first e < f → g < end S e → Trim S f g e (S.front f e ∷ (S.back g e ∷ []))
-  over_first : S.first e < f → f < end S e → end S e ≤ g → Trim S f g e (S.front f e ∷ [])
-  over_last : f ≤ S.first e → S.first e < g → g < end S e → Trim S f g e (S.back g e ∷ [])
+  around : S.first e < f → g < end S e → Trim S f g e (front_of S f e ∷ (back_of S g e ∷ []))
+  over_first : S.first e < f → f < end S e → end S e ≤ g → Trim S f g e (front_of S f e ∷ [])
+  over_last : f ≤ S.first e → S.first e < g → g < end S e → Trim S f g e (back_of S g e ∷ [])
   inside : f ≤ S.first e → end S e ≤ g → Trim S f g e []
 
 module _ {E : Type 0} (S : Shape E) where
   before_all : (p : ℕ) (e : E) → end S e ≤ p → before S p e ≡ e ∷ []
   before_all p e h = cond-true _ _ _ (le-leb _ _ h)
 
-  before_part : (p : ℕ) (e : E) → S.first e < p → p < end S e → before S p e ≡ S.front p e ∷ []
+  before_part : (p : ℕ) (e : E) → S.first e < p → p < end S e → before S p e ≡ front_of S p e ∷ []
   before_part p e a b = cond-false _ _ _ (lt-leb _ _ b) ∙ cond-true _ _ _ (lt-ltb _ _ a)
 
   before_none : (p : ℕ) (e : E) → p ≤ S.first e → p < end S e → before S p e ≡ []
@@ -27,7 +27,7 @@ module _ {E : Type 0} (S : Shape E) where
   since_all : (p : ℕ) (e : E) → p ≤ S.first e → since S p e ≡ e ∷ []
   since_all p e h = cond-true _ _ _ (le-leb _ _ h)
 
-  since_part : (p : ℕ) (e : E) → S.first e < p → p < end S e → since S p e ≡ S.back p e ∷ []
+  since_part : (p : ℕ) (e : E) → S.first e < p → p < end S e → since S p e ≡ back_of S p e ∷ []
   since_part p e a b = cond-false _ _ _ (lt-leb _ _ a) ∙ cond-true _ _ _ (lt-ltb _ _ b)
 
   since_none : (p : ℕ) (e : E) → S.first e < p → end S e ≤ p → since S p e ≡ []
@@ -68,5 +68,5 @@ module _ {E : Type 0} (S : Shape E) where
   trimmed_right f g e ok le h =
       joined_parts f g e _ _ (before_none f e (omega arith) (omega (arith, ok.some))) (since_all g e h)
 
-  pub trimmed_around : (f g : ℕ) (e : E) → f ≤ g → S.first e < f → g < end S e → trimmed S f g e ≡ S.front f e ∷ (S.back g e ∷ [])
+  pub trimmed_around : (f g : ℕ) (e : E) → f ≤ g → S.first e < f → g < end S e → trimmed S f g e ≡ front_of S f e ∷ (back_of S g e ∷ [])
   trimmed_around f g e le a b = joined_parts f g e _ _ (before_part f e a (omega arith)) (since_part g e (omega arith) b)

@@ -1,7 +1,7 @@
 -- Tables of elements as lists, and what each edit makes of one.
 use Rattle.std.specs.Prelude.{ℕ, zero, suc, Bool, true, false, cond, ◌&&◌, ◌||◌, List, [], ◌∷◌, ◌++◌, map, is_some, Some, None, Option, nat_le, nat_lt}
 use Rattle.std.specs.List.{flat_map}
-use Rattle.ranges.specs.Shape.{Shape, end, holds, proper}
+use Rattle.ranges.specs.Shape.{Shape, end, holds, proper, front_of, back_of, one_of}
 
 -- proper elements in rising order from page n on, no two with a page in common
 abbrev pub rising : {E : Type 0} → Shape E → ℕ → List E → Bool
@@ -11,7 +11,7 @@ rising S n (e ∷ es) = (proper S e && nat_le n (S.first e)) && rising S (end S 
 -- what the table says of a page
 abbrev pub said : {E : Type 0} → Shape E → ℕ → List E → Option E
 said S p [] = None
-said S p (e ∷ es) = cond (holds S p e) (Some (S.one p e)) (said S p es)
+said S p (e ∷ es) = cond (holds S p e) (Some (one_of S p e)) (said S p es)
 
 -- two elements have a page in common
 abbrev pub meets : {E : Type 0} → Shape E → E → E → Bool
@@ -29,11 +29,11 @@ inserted S e (x ∷ xs) = cond (nat_lt (S.first e) (S.first x)) (e ∷ (x ∷ xs
 
 -- what is left of e below page p: all of it, its front part or nothing
 abbrev pub before : {E : Type 0} → Shape E → ℕ → E → List E
-before S p e = cond (nat_le (end S e) p) (e ∷ []) (cond (nat_lt (S.first e) p) (S.front p e ∷ []) [])
+before S p e = cond (nat_le (end S e) p) (e ∷ []) (cond (nat_lt (S.first e) p) (front_of S p e ∷ []) [])
 
 -- what is left of e from page p on: all of it, its back part or nothing
 abbrev pub since : {E : Type 0} → Shape E → ℕ → E → List E
-since S p e = cond (nat_le p (S.first e)) (e ∷ []) (cond (nat_lt p (end S e)) (S.back p e ∷ []) [])
+since S p e = cond (nat_le p (S.first e)) (e ∷ []) (cond (nat_lt p (end S e)) (back_of S p e ∷ []) [])
 
 -- what is left of e without the pages from f to before g
 abbrev pub trimmed : {E : Type 0} → Shape E → ℕ → ℕ → E → List E

@@ -1,6 +1,6 @@
 // What a row of a range table must be able to do.
 ghost use Rattle.std.specs.Prelude.{◌≡◌, ℕ, ◌+◌, ◌<◌, ◌≤◌, true, cond, ◌&&◌, is_some, IfSome, nat_le, nat_lt};
-ghost use Rattle.ranges.specs.Shape.{Shape, Laws, Altering, end, proper, holds};
+ghost use Rattle.ranges.specs.Shape.{Shape, Laws, Altering, end, front_of, back_of, one_of, proper, holds};
 
 use crate::range::Range;
 
@@ -17,26 +17,43 @@ pub trait Element: Copy {
     fn pages(&self) -> u16
         ensures { result ≡ shape.pages self.now };
 
+    // The part of so many of its pages, from a page on.
+    fn part(&self, first: u16, pages: u16) -> Self
+        requires proper { proper shape self.now ≡ true }
+        requires from { shape.first self.now ≤ first }
+        requires within { first + pages ≤ end shape self.now }
+        ensures { result ≡ shape.part first pages self.now };
+
     // The part below a page inside.
     fn front(&self, page: u16) -> Self
         requires proper { proper shape self.now ≡ true }
         requires above { shape.first self.now < page }
         requires below { page < end shape self.now }
-        ensures { result ≡ shape.front page self.now };
+        ensures { result ≡ front_of shape page self.now }
+    {
+        let first = self.first();
+        self.part(first, page - first)
+    }
 
     // The part from a page inside on.
     fn back(&self, page: u16) -> Self
         requires proper { proper shape self.now ≡ true }
         requires above { shape.first self.now < page }
         requires below { page < end shape self.now }
-        ensures { result ≡ shape.back page self.now };
+        ensures { result ≡ back_of shape page self.now }
+    {
+        self.part(page, self.first() + self.pages() - page)
+    }
 
     // What is said of one of its pages.
     fn one(&self, page: u16) -> Self
         requires proper { proper shape self.now ≡ true }
         requires from { shape.first self.now ≤ page }
         requires below { page < end shape self.now }
-        ensures { result ≡ shape.one page self.now };
+        ensures { result ≡ one_of shape page self.now }
+    {
+        self.part(page, 1)
+    }
 }
 
 // A change of what elements say, which moves none.

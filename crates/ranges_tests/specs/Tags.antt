@@ -1,6 +1,5 @@
 -- Tagged pages as elements of a range table.
-use Rattle.std.specs.Prelude.{ℕ, ◌-◌, true, refl}
-use Rattle.std.proofs.Common.{arith}
+use Rattle.std.specs.Prelude.{ℕ, true, refl}
 use Rattle.ranges.specs.Shape.{Shape, Laws, Altering}
 use Rattle.ranges_tests.specs.declared.tagged.Retag.{Retag}
 use Rattle.ranges_tests.specs.declared.tagged.Tagged.{Tagged}
@@ -14,9 +13,7 @@ abbrev pub tagged_shape : Shape Tagged
 tagged_shape = record {
   first = λ e. e.first;
   pages = λ e. e.pages;
-  front = λ p e. tagged_of e.first (p - e.first) e.tag;
-  back = λ p e. tagged_of p (e.pages - (p - e.first)) e.tag;
-  one = λ p e. tagged_of p 1 e.tag;
+  part = λ p n e. tagged_of p n e.tag;
   fits = λ e. true;
 }
 
@@ -26,7 +23,7 @@ tagged_laws = record {
   front_first = λ e p above below. refl;
   front_pages = λ e p above below. refl;
   back_first = λ e p above below. refl;
-  back_pages = λ e p above below. omega arith;
+  back_pages = λ e p above below. refl;
   front_fits = λ e p fits above below. refl;
   back_fits = λ e p fits above below. refl;
   front_says = λ e p q from below within. refl;

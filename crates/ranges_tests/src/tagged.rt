@@ -32,25 +32,10 @@ impl Element for Tagged {
         self.pages
     }
 
-    fn front(&self, page: u16) -> Tagged {
+    fn part(&self, first: u16, pages: u16) -> Tagged {
         Tagged {
-            pages: page - self.first,
-            ..*self
-        }
-    }
-
-    fn back(&self, page: u16) -> Tagged {
-        Tagged {
-            first: page,
-            pages: self.pages - (page - self.first),
-            ..*self
-        }
-    }
-
-    fn one(&self, page: u16) -> Tagged {
-        Tagged {
-            first: page,
-            pages: 1,
+            first,
+            pages,
             ..*self
         }
     }
