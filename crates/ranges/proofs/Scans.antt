@@ -28,9 +28,6 @@ module _ {E : Type 0} (S : Shape E) (xs : List E) (i : ℕ) (x : E) (l : i < len
   reach_same p q h is =
       ap (reach S p) (drop_read xs i x l read) ∙ ap (λ y. reach S y (drop (i + 1) xs)) (cond-false _ _ _ h ∙ sym is)
 
-inserted_last : {E : Type 0} (e : E) (xs : List E) (i : ℕ) → length xs ≤ i → take i xs ++ e ∷ drop i xs ≡ xs ++ e ∷ []
-inserted_last e xs i h = ap (λ t. t ++ e ∷ drop i xs) (take_all i xs h) ∙ ap (λ t. xs ++ e ∷ t) (drop_all i xs h)
-
 -- the first place that passes, or else the end
 place_is : {X : Type 0} (p : X → Bool) (xs : List X) → unwrap_or (position p xs) (length xs) ≡ position_or_len p xs
 place_is p xs = known (nat_lt (position_or_len p xs) (length xs)) refl

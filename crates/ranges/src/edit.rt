@@ -1,4 +1,5 @@
-// Edits of a table: the first `len` rows are in use, and the slice's length is the most there can be.
+// Edits of a lent slice: the first `len` rows are in use, and the slice's length is the most there can be. A slice has no
+// invariant, and the project's rule wants these functions over lent slices; so each asks that the rows rise. `Table` keeps it.
 ghost use Rattle.std.specs.Prelude.{◌≡◌, ℕ, ◌+◌, ◌-◌, ◌<◌, ◌≤◌, true, ◌||◌, List, ◌∷◌, ◌++◌, map, length, take, drop, IfSome, if◌then◌else◌};
 ghost use Rattle.ranges.specs.Shape.{Shape, Laws, end, proper};
 ghost use Rattle.ranges.specs.Tables.{rising, said, taken, inserted, removed, cut as cut_at, inside, altered};

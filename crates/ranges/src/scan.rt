@@ -1,4 +1,4 @@
-// Loops that look through a table and change nothing.
+// Loops that look through a lent slice and change nothing. Each asks that its rows rise, since a slice has no invariant.
 ghost use Rattle.std.specs.Prelude.{nat_lt, position, ◌≡◌, ℕ, ◌+◌, ◌-◌, ◌<◌, ◌≤◌, true, false, List, ◌∷◌, ◌++◌, length, take, drop, MatchOption};
 ghost use Rattle.ranges.specs.Shape.{Shape, Laws, end, proper};
 ghost use Rattle.ranges.specs.Tables.{rising, said, taken, inserted, covered};
