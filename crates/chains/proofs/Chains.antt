@@ -1,6 +1,6 @@
 -- Chains and walks: each object has one, and the functions by fuel give them.
-use Rattle.std.proofs.Common.{◌≡◌, ℕ, zero, suc, ◌+◌, ◌≤◌, Bool, true, false, Some, None, Option, sym, refl, ap, ◌∙◌, subst, arith}
-use Rattle.std.proofs.lemmas.Bool.{both_ways}
+use Rattle.std.proofs.Common.{◌≡◌, ℕ, zero, suc, ◌+◌, ◌<◌, ◌≤◌, Bool, true, false, Some, None, Option, sym, refl, ap, ◌∙◌, subst, inl, inr, arith}
+use Rattle.std.proofs.lemmas.Bool.{both_ways, cases_lt}
 use Rattle.chains.specs.declared.Origin.{Origin}
 use Rattle.chains.specs.declared.Backing.{Backing}
 use Rattle.chains.specs.declared.Backing.TheVariants.{Free, Root, Shadow}
@@ -17,6 +17,10 @@ root_shadow b h k = cc
 
 pub free_live : (b : Backing) → b ≡ Free → live b ≡ true → ⊥
 free_live b h k = both_ways (live b) (ap live h) k
+
+-- a live row lies within the table
+pub live_below : (N : ℕ) (B : ℕ → Backing) → ((o : ℕ) → N ≤ o → B o ≡ Free) → (o : ℕ) → live (B o) ≡ true → o < N
+live_below N B few o h = elim (cases_lt o N) [ inl l ↦ l | inr g ↦ absurd (free_live (B o) (few o g) h) ]
 
 pub chain_live : {B : ℕ → Backing} {o n : ℕ} → Chain B o n → live (B o) ≡ true
 chain_live (root h) = ap live h

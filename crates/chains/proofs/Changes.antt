@@ -1,6 +1,7 @@
 -- Each change of the tables keeps them sound, and keeps the walks.
 use Rattle.std.proofs.Common.{◌≡◌, ℕ, suc, ◌+◌, ◌<◌, ◌≤◌, Bool, true, false, cond, eqb, ◌⊎◌, is_some, Some, None, Option, sym, refl, ap, ◌∙◌, subst, inl, inr, arith}
 use Rattle.std.proofs.lemmas.Bool.{cases_eq, cases_lt, cases_Bool, eqb-true, eqb-false, eq-eqb, ne_eqb}
+use Rattle.std.proofs.lemmas.Option.{same_Some}
 use Rattle.chains.specs.declared.Origin.{Origin}
 use Rattle.chains.specs.declared.Backing.{Backing}
 use Rattle.chains.specs.declared.Backing.TheVariants.{Free, Root, Shadow}
@@ -12,25 +13,19 @@ use Rattle.chains.specs.Walks.{Bare, Chain, root, on, Walks, at_frame, below, sl
 use Rattle.chains.specs.Sound.{Formed, Settled, Sound, Nearly, Put, Keeps, Thins, Settles}
 use Rattle.chains.proofs.Sums.{sum_zero, term_le, two_terms, some_term}
 use Rattle.chains.proofs.Finds.{none_some, none_bare, bare_none}
-use Rattle.chains.proofs.Chains.{free_live, chain_live, chain_next, not_itself}
+use Rattle.chains.proofs.Chains.{free_live, live_below, chain_live, chain_next, not_itself}
 use Rattle.chains.proofs.Weights.{bit_false, true_bit, bit_same, bit_other, names_put, shadows_put, shadows_true, names_true}
 use Rattle.chains.proofs.Transfers.{chain_goes, walk_goes, chain_collapses, walk_collapses}
 
-same_object : {v w : Owner} → Some v ≡ Some w → v.object ≡ w.object
+pub same_object : {v w : Owner} → Some v ≡ Some w → v.object ≡ w.object
 same_object e = cc
 
 same_index : {v w : Owner} → Some v ≡ Some w → v.index ≡ w.index
 same_index e = cc
 
-same_top : {a b : ℕ} → Some a ≡ Some b → a ≡ b
-same_top e = cc
-
 module _ (N M F : ℕ) where
   -- what a name and a shadow weigh
   module _ (B : ℕ → Backing) (T : ℕ → Option ℕ) (objects : (o : ℕ) → N ≤ o → B o ≡ Free) (records : (r : ℕ) → M ≤ r → T r ≡ None) where
-    pub live_below : (o : ℕ) → live (B o) ≡ true → o < N
-    live_below o h = elim (cases_lt o N) [ inl l ↦ l | inr g ↦ absurd (free_live (B o) (objects o g) h) ]
-
     pub used_below : (r o : ℕ) → T r ≡ Some o → r < M
     used_below r o h = elim (cases_lt r M) [ inl l ↦ l | inr g ↦ absurd (none_some (T r) (records r g) h) ]
 
@@ -40,7 +35,7 @@ module _ (N M F : ℕ) where
 
     pub shadowed : (a o : ℕ) → B a ≡ Shadow o → 1 ≤ count N (λ k. is_shadowing o (B k))
     shadowed a o h =
-        omega (arith, term_le N (λ k. bit (is_shadowing o (B k))) a (live_below a (ap live h)), ap (λ x. bit (is_shadowing o x)) h, bit_same o o refl)
+        omega (arith, term_le N (λ k. bit (is_shadowing o (B k))) a (live_below N B objects a (ap live h)), ap (λ x. bit (is_shadowing o x)) h, bit_same o o refl)
 
     -- two of a kind weigh two
     pub named_twice : (r k o : ℕ) → T r ≡ Some o → T k ≡ Some o → (r ≡ k → ⊥) → 2 ≤ count M (λ k. is_naming o (T k))
@@ -49,7 +44,7 @@ module _ (N M F : ℕ) where
 
     pub shadowed_twice : (a b o : ℕ) → B a ≡ Shadow o → B b ≡ Shadow o → (a ≡ b → ⊥) → 2 ≤ count N (λ k. is_shadowing o (B k))
     shadowed_twice a b o h g d =
-        omega (arith, two_terms N (λ k. bit (is_shadowing o (B k))) a b (live_below a (ap live h)) (live_below b (ap live g)) d, ap (λ x. bit (is_shadowing o x)) h, ap (λ x. bit (is_shadowing o x)) g, bit_same o o refl)
+        omega (arith, two_terms N (λ k. bit (is_shadowing o (B k))) a b (live_below N B objects a (ap live h)) (live_below N B objects b (ap live g)) d, ap (λ x. bit (is_shadowing o x)) h, ap (λ x. bit (is_shadowing o x)) g, bit_same o o refl)
 
     -- an object of weight 2 that a record names has no other reference
     pub alone_name : (r k o : ℕ) → T r ≡ Some o → weight N M B T o ≤ 2 → T k ≡ Some o → r ≡ k
@@ -118,7 +113,7 @@ module _ (N M F : ℕ) where
       records = λ k l. puts.elsewhere k (λ e. omega arith) ∙ F₀.records k l;
       frames = F₀.frames;
       tops = λ k a h. elim (cases_eq k r) [
-        | inl e ↦ subst (λ y. live (B' y) ≡ true) (same_top (sym puts.here ∙ ap T' (sym e) ∙ h)) (chain_live c)
+        | inl e ↦ subst (λ y. live (B' y) ≡ true) (same_Some _ _ (sym puts.here ∙ ap T' (sym e) ∙ h)) (chain_live c)
         | inr d ↦ grown_live a (F₀.tops k a (sym (puts.elsewhere k d) ∙ h))
       ];
       chained = λ a l. elim (cases_eq a o) [
@@ -152,7 +147,7 @@ module _ (N M F : ℕ) where
       records = λ j l. puts.elsewhere j (λ e. omega arith) ∙ S.formed.records j l;
       frames = S.formed.frames;
       tops = λ j a h. elim (cases_eq j k) [
-        | inl e ↦ subst (λ y. live (B y) ≡ true) (same_top (sym puts.here ∙ ap T' (sym e) ∙ h)) (S.formed.tops r o top)
+        | inl e ↦ subst (λ y. live (B y) ≡ true) (same_Some _ _ (sym puts.here ∙ ap T' (sym e) ∙ h)) (S.formed.tops r o top)
         | inr d ↦ S.formed.tops j a (sym (puts.elsewhere j d) ∙ h)
       ];
       chained = S.formed.chained;
@@ -439,8 +434,8 @@ module _ (N M F : ℕ) where
     pub collapsed : Formed N M F B' W' T
     collapsed = record {
       objects = λ a l.
-          let b : o < N = live_below B T F₀.objects F₀.records o lower_live in
-          let c : q < N = live_below B T F₀.objects F₀.records q upper_live in
+          let b : o < N = live_below N B F₀.objects o lower_live in
+          let c : q < N = live_below N B F₀.objects q upper_live in
           same a (λ e. omega arith) (λ e. omega arith) ∙ F₀.objects a l;
       records = F₀.records;
       frames = λ s l. lifts s ∙ ap (lifted F W o q) (F₀.frames s l);
@@ -468,8 +463,8 @@ module _ (N M F : ℕ) where
     -- no other weight changes
     pub collapsed_weight : (a : ℕ) → (a ≡ o → ⊥) → weight N M B' T a ≡ weight N M B T a
     collapsed_weight a d =
-        let b : o < N = live_below B T F₀.objects F₀.records o lower_live in
-        let c : q < N = live_below B T F₀.objects F₀.records q upper_live in
+        let b : o < N = live_below N B F₀.objects o lower_live in
+        let c : q < N = live_below N B F₀.objects q upper_live in
         let u : bit (is_shadowing a (B₁ q)) ≡ bit (eqb o a) = ap (λ y. bit (is_shadowing a y)) (put.elsewhere q two ∙ shadow) in
         omega (arith, u, bit_other o a (λ e. d (sym e)), shadows_put N B B₁ o Free put b a, shadows_put N B₁ B' q (B o) puts c a)
 

@@ -1,6 +1,6 @@
 -- How many objects there are, and how long a chain is.
 use Rattle.std.proofs.Common.{◌≡◌, ℕ, zero, suc, ◌+◌, ◌*◌, ◌<◌, ◌≤◌, Bool, true, false, cond, ◌||◌, eqb, ◌⊎◌, is_some, Option, sym, refl, ap, ◌∙◌, subst, inl, inr, arith}
-use Rattle.std.proofs.lemmas.Bool.{cases_eq, cases_lt, cases_Bool, eqb-true, eq-eqb, ne_eqb, or_cases, both_ways}
+use Rattle.std.proofs.lemmas.Bool.{cases_eq, cases_Bool, eqb-true, eq-eqb, ne_eqb, or_cases, both_ways}
 use Rattle.chains.specs.declared.Origin.{Origin}
 use Rattle.chains.specs.declared.Backing.{Backing}
 use Rattle.chains.specs.declared.Backing.TheVariants.{Free, Root, Shadow}
@@ -8,7 +8,7 @@ use Rattle.chains.specs.Rows.{live, is_shadowing, is_naming, sum_to, bit, count,
 use Rattle.chains.specs.Walks.{Chain, root, on}
 use Rattle.chains.specs.Sound.{Settled}
 use Rattle.chains.proofs.Sums.{bit_le, sum_le, sum_same, sum_add, sum_zero, sum_one, sum_swap, sum_change, term_le}
-use Rattle.chains.proofs.Chains.{chain_live, chain_next, chain_same, free_live}
+use Rattle.chains.proofs.Chains.{live_below, chain_live, chain_next, chain_same}
 use Rattle.chains.proofs.Weights.{bit_true, bit_false, true_bit, bit_same, bit_other, names_sum, shadows_sum, is_shadow_row, shadow_live, one_shadow, shadows_true}
 
 -- sums of the weights, once by object and once by reference
@@ -28,9 +28,6 @@ chain_root (root {o = o} {g = g} h) = (o, g, h)
 chain_root (on h c) = chain_root c
 
 module _ (N M : ℕ) (B : ℕ → Backing) (T : ℕ → Option ℕ) (few : (o : ℕ) → N ≤ o → B o ≡ Free) (settled : Settled N M B T) where
-  pub live_below : (o : ℕ) → live (B o) ≡ true → o < N
-  live_below o h = elim (cases_lt o N) [ inl l ↦ l | inr g ↦ absurd (free_live (B o) (few o g) h) ]
-
   live_weight : (o : ℕ) → 2 * bit (live (B o)) ≤ weight N M B T o
   live_weight o = elim (cases_Bool (live (B o))) [ inl t ↦ omega (arith, settled o t, bit_true _ t) | inr f ↦ omega (arith, bit_false _ f) ]
 
@@ -50,14 +47,14 @@ module _ (N M : ℕ) (B : ℕ → Backing) (T : ℕ → Option ℕ) (few : (o : 
       let q : sum_to N (λ o. f o + bit (eqb o x)) ≤ sum_to N (weight N M B T) =
       sum_le N _ _ (λ k l. elim (cases_eq k x) [ inl e ↦ omega (arith, bit_le (live (B k)), bit_le (eqb k x), ap (weight N M B T) e, h) | inr d ↦ omega (arith, live_weight k, bit_other k x d) ])
       in
-      let one : 1 ≤ sum_to N (λ o. bit (eqb o x)) = omega (arith, term_le N (λ o. bit (eqb o x)) x (live_below x (chain_live c)), bit_same x x refl) in
+      let one : 1 ≤ sum_to N (λ o. bit (eqb o x)) = omega (arith, term_le N (λ o. bit (eqb o x)) x (live_below N B few x (chain_live c)), bit_same x x refl) in
       let z = chain_root c in
       let zl : live (B z.0) ≡ true = ap live z.2 in
       let zs : is_shadow_row (B z.0) ≡ false = ap is_shadow_row z.2 in
       let r : sum_to N (λ o. bit (is_shadow_row (B o)) + bit (eqb o z.0)) ≤ count N (λ o. live (B o)) =
       sum_le N _ _ (λ k l. elim (cases_eq k z.0) [ inl e ↦ omega (arith, bit_same k z.0 e, ap (λ y. bit (live (B y))) e, bit_true _ zl, ap (λ y. bit (is_shadow_row (B y))) e, bit_false _ zs) | inr d ↦ omega (arith, bit_other k z.0 d, shadow_live (B k)) ])
       in
-      let two : 1 ≤ sum_to N (λ o. bit (eqb o z.0)) = omega (arith, term_le N (λ o. bit (eqb o z.0)) z.0 (live_below z.0 zl), bit_same z.0 z.0 refl) in
+      let two : 1 ≤ sum_to N (λ o. bit (eqb o z.0)) = omega (arith, term_le N (λ o. bit (eqb o z.0)) z.0 (live_below N B few z.0 zl), bit_same z.0 z.0 refl) in
       omega (arith, q, doubled, one, two, r, weight_sum N M B T, sum_add N f (λ o. bit (eqb o x)), sum_add N (λ o. bit (is_shadow_row (B o))) (λ o. bit (eqb o z.0)))
 
 -- which objects a chain of n objects from s on has
@@ -202,4 +199,4 @@ module _ (N M : ℕ) (B : ℕ → Backing) (T : ℕ → Option ℕ) (few : (o : 
         let live_all : count N (λ o. live (B o)) ≤ sum_to N (λ o. count M (λ r. is_naming o (T r)) + sum_to N (off_at o)) = sum_le N _ _ (λ o l. off_some o) in
         let offs : sum_to N (λ p. sum_to N (λ o. off_at o p)) ≤ sum_to N off_live = sum_le N _ _ (λ p l. off_column p) in
         let parts : sum_to N (λ p. off_live p + bit (passes n B s p)) ≤ count N (λ o. live (B o)) = sum_le N _ _ (λ p l. on_live p) in
-        omega (arith, live_all, offs, parts, sum_add N (λ o. count M (λ r. is_naming o (T r))) (λ o. sum_to N (off_at o)), sum_swap N N off_at, sum_add N off_live (λ p. bit (passes n B s p)), names_sum N M T, passes_count B c N (live_below N M B T few settled))
+        omega (arith, live_all, offs, parts, sum_add N (λ o. count M (λ r. is_naming o (T r))) (λ o. sum_to N (off_at o)), sum_swap N N off_at, sum_add N off_live (λ p. bit (passes n B s p)), names_sum N M T, passes_count B c N (live_below N B few))

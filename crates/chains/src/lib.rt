@@ -11,7 +11,7 @@ pub enum Origin {
     Page { object: u16, first: u16 },
 }
 
-// A row of the object table.
+// A row of the object table. A shadow names the object below by its row's number: the table is an array, on no heap.
 #[derive(Clone, Copy, Debug, PartialEq, Eq)]
 pub enum Backing {
     Free,

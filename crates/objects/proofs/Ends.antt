@@ -3,6 +3,7 @@ use Rattle.std.proofs.Common.{◌≡◌, ℕ, suc, ◌+◌, ◌-◌, ◌≤◌, 
 use Rattle.std.proofs.lemmas.Bool.{both_ways}
 use Rattle.std.specs.declared.ops.ControlFlow.{ControlFlow}
 use Rattle.std.specs.declared.ops.ControlFlow.TheVariants.{Continue, Break}
+use Rattle.std.proofs.lemmas.Option.{same_Some}
 use Rattle.chains.specs.declared.Origin.{Origin}
 use Rattle.chains.specs.declared.Origin.TheVariants.{Zeros, Page}
 use Rattle.chains.specs.declared.Backing.{Backing}
@@ -67,11 +68,8 @@ module _ (t : Tables) (S : SoundTables t) where
     pub end_walk : (i : ℕ) (e : End) → walk_end t r i ≡ Some e → (n : ℕ) × WalksIn t i o e n
     end_walk i e h =
         let x = walk_of i in
-        let q : x.0 ≡ e = same (sym (end_is i x.1 x.0 x.2) ∙ h) in
+        let q : x.0 ≡ e = same_Some _ _ (sym (end_is i x.1 x.0 x.2) ∙ h) in
         (x.1, subst (λ z. WalksIn t i o z x.1) q x.2)
-      where
-        same : {a b : End} → Some a ≡ Some b → a ≡ b
-        same p = cc
 
   -- a record that is not in use has no walk
   pub end_none : (r i : ℕ) → in_use t r ≡ false → walk_end t r i ≡ None

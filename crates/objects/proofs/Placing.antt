@@ -2,13 +2,12 @@
 use Rattle.std.proofs.Common.{◌≡◌, ℕ, ◌<◌, ◌≤◌, Bool, true, false, not, eqb, ltb, ◌⊎◌, Some, None, Option, sym, refl, ap, ◌∙◌, inl, inr, arith}
 use Rattle.std.proofs.lemmas.Bool.{eq-eqb, and_from, or_left, or_right, lt-ltb, not_from_true, not_from_false}
 use Rattle.chains.specs.declared.Backing.TheVariants.{Shadow}
-use Rattle.chains.specs.declared.Owner.{Owner}
 use Rattle.chains.specs.declared.End.{End}
 use Rattle.chains.specs.declared.End.TheVariants.{Frame}
 use Rattle.chains.specs.Rows.{own}
 use Rattle.chains.specs.Walks.{at_frame, at_root, below, slot_of}
 use Rattle.chains.proofs.Finds.{slot_some}
-use Rattle.chains.proofs.Changes.{named, named_twice, shadowed}
+use Rattle.chains.proofs.Changes.{same_object, named, named_twice, shadowed}
 use Rattle.objects.specs.declared.tables.Tables.{Tables}
 use Rattle.objects.specs.View.{backing, owner_of, top_of, in_use, walk_end, weight_of, SoundTables}
 use Rattle.objects.specs.Says.{other_frame, placeable_on, placeable, TakesOwn, TakesShared}
@@ -19,10 +18,7 @@ through : (t : Tables) {i a n : ℕ} {e : End} → WalksIn t i a e n → (k o : 
 through t {i} {a} (at_frame {s = u} h) k o q g =
     let p : u ≡ k = cc in
     let z : Some (own a i) ≡ Some (own o i) = sym h ∙ ap (owner_of t) p ∙ g in
-    inl (same z)
-  where
-    same : {v w : Owner} → Some v ≡ Some w → v.object ≡ w.object
-    same e = cc
+    inl (same_object z)
 through t {i} (at_root {g = g} b h) k o q f = absurd (source_frame i k g q)
 through t {a = a} (below b h w) k o q g = elim (through t w k o q g) [ inl e ↦ inr (a, h ∙ ap Shadow e) | inr x ↦ inr x ]
 

@@ -9,16 +9,16 @@ use Rattle.chains.specs.Rows.{live, is_shadowing, weight}
 use Rattle.chains.specs.Walks.{lowest, dropped, lifted}
 use Rattle.chains.specs.Sound.{Formed, Settles, Put}
 use Rattle.chains.proofs.Finds.{lowest_some, lowest_none}
-use Rattle.chains.proofs.Chains.{chain_live, chain_next, free_live}
+use Rattle.chains.proofs.Chains.{live_below, chain_live, chain_next, free_live}
 use Rattle.chains.proofs.Weights.{shadows_true}
-use Rattle.chains.proofs.Changes.{live_below, some_shadow, collapse_settles, then_settles, root_settles, shadow_nearly, freed, freed_keeps, freed_thins}
+use Rattle.chains.proofs.Changes.{some_shadow, collapse_settles, then_settles, root_settles, shadow_nearly, freed, freed_keeps, freed_thins}
 use Rattle.objects.specs.declared.tables.Tables.{Tables}
 use Rattle.objects.specs.View.{backing, owner_of, top_of, weight_of, FormedTables, OthersSettled, SettledFrom}
 use Rattle.objects.proofs.Edits.{set_put}
 
 module _ (t : Tables) (formed : FormedTables t) where
   pub object_below : (o : ℕ) → live (backing t o) ≡ true → o < 511
-  object_below o h = live_below 511 256 128 (backing t) (top_of t) formed.objects formed.records o h
+  object_below o h = live_below 511 (backing t) formed.objects o h
 
   pub shadowed_live : (q o : ℕ) → backing t q ≡ Shadow o → live (backing t o) ≡ true
   shadowed_live q o h = chain_live (chain_next (formed.chained q (ap live h)).1 h).1
