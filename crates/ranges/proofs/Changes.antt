@@ -1,6 +1,6 @@
 -- A table cut at both ends of a range and changed between them.
-use Rattle.std.proofs.Common.{◌≡◌, ℕ, ◌+◌, ◌-◌, ◌<◌, ◌≤◌, Bool, true, false, cond, ◌⊎◌, List, [], ◌∷◌, ◌++◌, map, length, get_or, take, drop, set, Some, None, Option, sym, refl, ap, ◌∙◌, inl, inr, ⊎_elim, append_assoc, append-nil, arith}
-use Rattle.std.proofs.lemmas.List.{length-append, length-map, length-take-le, get_or-append_right, get_or-drop, take_at, take_all, drop_all}
+use Rattle.std.proofs.Common.{◌≡◌, ℕ, ◌+◌, ◌-◌, ◌<◌, ◌≤◌, Bool, true, false, cond, ◌⊎◌, List, [], ◌∷◌, ◌++◌, map, length, get_or, take, drop, set, Some, None, Option, sym, refl, ap, ◌∙◌, inl, inr, ⊎_elim, append_assoc, arith}
+use Rattle.std.proofs.lemmas.List.{length-append, length-map, length-take-le, get_or-append_right, get_or-drop, take_at}
 use Rattle.std.proofs.lemmas.List.Edits.{map_over_more}
 use Rattle.std.proofs.lemmas.Bool.{and_from, and_left, and_right, lt-ltb, le-ltb, le-leb, lt-leb, cond-true, cond-false, cases_lt}
 use Rattle.std.specs.Option.{option_map}
@@ -25,9 +25,6 @@ module _ {E : Type 0} (h : E → E) (xs ys : List E) (i : ℕ) (l : i < length x
 
   pub over_more : (x y : E) → x ≡ get_or ys i x → y ≡ h x → set ys i y ≡ map h (take (i + 1) xs) ++ drop (i + 1) xs
   over_more x y read to = ap (set ys i) to ∙ map_over_more h xs ys i x l is read
-
-pub over_all : {E : Type 0} (h : E → E) (xs ys : List E) (i : ℕ) → length xs ≤ i → ys ≡ map h (take i xs) ++ drop i xs → ys ≡ map h xs
-over_all h xs ys i l is = is ∙ ap (λ t. map h t ++ drop i xs) (take_all i xs l) ∙ ap (λ t. map h xs ++ t) (drop_all i xs l) ∙ append-nil (map h xs)
 
 -- each element lies on one side of page p
 abbrev pub Clear : {E : Type 0} → Shape E → ℕ → List E → Type 0

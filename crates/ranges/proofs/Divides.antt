@@ -1,5 +1,5 @@
 -- How the rows change where pages are taken out.
-use Rattle.std.proofs.Common.{◌≡◌, ℕ, zero, suc, ◌+◌, ◌-◌, ◌<◌, ◌≤◌, true, List, [], ◌∷◌, ◌++◌, length, get_or, take, drop, set, sym, refl, ap, ◌∙◌, subst, inl, inr, append_assoc, append-nil, add-one, arith}
+use Rattle.std.proofs.Common.{cond, is_some, Some, None, Option, MatchOption, ◌≡◌, ℕ, zero, suc, ◌+◌, ◌-◌, ◌<◌, ◌≤◌, true, List, [], ◌∷◌, ◌++◌, length, get_or, take, drop, set, sym, refl, ap, ◌∙◌, subst, inl, inr, append_assoc, append-nil, add-one, arith}
 use Rattle.std.proofs.lemmas.List.{length-set, length-append, length-drop, length-take-le, take-take, take_more_set, drop-set-lt, drop-drop, get_or-take, get_or-drop, get_or_default, take_all, flat_map_more}
 use Rattle.std.proofs.lemmas.Slice.{between_is}
 use Rattle.std.proofs.lemmas.Bool.{cases_lt}
@@ -99,6 +99,11 @@ module _ {E : Type 0} (S : Shape E) where
   pub cut_same : (p : ℕ) (es : List E) → rising S 0 es ≡ true → Apart S p p es → cut S p es ≡ es
   cut_same p es up h = cut_apart 0 p es (rising_facts S 0 es up) h
 
+  -- a cut takes a row more where an element lies around it
+  pub extra_rows : (p n : ℕ) (es : List E) (o : Option ℕ) → rising S 0 es ≡ true → MatchOption o (Apart S p p es) (Around S p p es) → n ≡ cond (is_some o) 1 0 → length (cut S p es) ≡ length es + n
+  extra_rows p n es None up place more = ap length (cut_same p es up place) ∙ omega arith
+  extra_rows p n es (Some at) up place more = around_length p p at es up (omega arith) place ∙ omega arith
+
   -- ys began as xs. The first k rows of ys are what is left of the first i of xs, and from i on ys is as it was
   pub record Squeezing (f g : ℕ) (xs ys : List E) (k i : ℕ) : Type 0 where
     pub front : take k ys ≡ removed S f g (take i xs)
@@ -143,6 +148,3 @@ module _ {E : Type 0} (S : Shape E) where
 
     pub squeezing_all : length xs ≤ i → take k ys ≡ removed S f g xs
     squeezing_all h = q.front ∙ ap (removed S f g) (take_all i xs h)
-
-  pub squeezing_start : (f g : ℕ) (xs : List E) → Squeezing f g xs xs 0 0
-  squeezing_start f g xs = record { front = refl; rest = refl; behind = omega arith; within = omega arith; long = refl }

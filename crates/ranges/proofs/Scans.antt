@@ -1,10 +1,13 @@
 -- One row more of a scan.
-use Rattle.std.proofs.Common.{◌≡◌, ℕ, ◌+◌, ◌<◌, ◌≤◌, true, false, ◌||◌, List, [], ◌∷◌, ◌++◌, length, get_or, take, drop, Some, sym, ap, ◌∙◌, subst, append_assoc, arith}
-use Rattle.std.proofs.lemmas.List.{drop_more, take_more, get_or_read, take_all, drop_all}
-use Rattle.std.proofs.lemmas.Bool.{cond-true, cond-false, lt-ltb, le-ltb, or_left}
+use Rattle.std.proofs.Common.{position, unwrap_or, cond, not, nat_lt, None, Bool, suc, refl, ◌≡◌, ℕ, ◌+◌, ◌<◌, ◌≤◌, true, false, List, [], ◌∷◌, ◌++◌, length, get_or, take, drop, Some, sym, ap, ◌∙◌, arith}
+use Rattle.std.proofs.lemmas.List.{drop_more, take_more, take_all, drop_all}
+use Rattle.std.proofs.lemmas.Bool.{cond-true, cond-false}
+use Rattle.std.proofs.lemmas.Bool.{ltb-false}
+use Rattle.std.proofs.lemmas.List.Sums.{prefix_len-le-length}
+use Rattle.std.specs.List.{position_or_len}
 use Rattle.ranges.specs.Shape.{Shape, end, holds, proper}
-use Rattle.ranges.specs.Tables.{rising, said, taken, meets, inserted}
-use Rattle.ranges.specs.Places.{Around, reach}
+use Rattle.ranges.specs.Tables.{rising, inserted}
+use Rattle.ranges.specs.Places.{reach}
 use Rattle.ranges.proofs.Facts.{rising_facts, proper_from, proper_at}
 
 pub drop_read : {E : Type 0} (xs : List E) (i : ℕ) (x : E) → i < length xs → x ≡ get_or xs i x → drop i xs ≡ x ∷ drop (i + 1) xs
@@ -17,29 +20,6 @@ module _ {E : Type 0} (S : Shape E) (xs : List E) (i : ℕ) (x : E) (l : i < len
   pub proper_read : (n : ℕ) → rising S n xs ≡ true → proper S x ≡ true
   proper_read n up = rw read (proper_from S _ (proper_at S n xs i x (rising_facts S n xs up) l))
 
-  pub said_found : (p : ℕ) → holds S p x ≡ true → said S p (drop i xs) ≡ Some (S.one p x)
-  said_found p h = ap (said S p) (drop_read xs i x l read) ∙ cond-true _ _ _ h
-
-  pub said_more : (p : ℕ) → holds S p x ≡ false → said S p (drop i xs) ≡ said S p (drop (i + 1) xs)
-  said_more p h = ap (said S p) (drop_read xs i x l read) ∙ cond-false _ _ _ h
-
-  pub taken_found : (e : E) → meets S e x ≡ true → taken S e (drop i xs) ≡ true
-  taken_found e h = ap (taken S e) (drop_read xs i x l read) ∙ or_left _ _ h
-
-  pub taken_more : (e : E) → meets S e x ≡ false → taken S e (drop i xs) ≡ taken S e (drop (i + 1) xs)
-  taken_more e h = ap (taken S e) (drop_read xs i x l read) ∙ ap (λ b. b || taken S e (drop (i + 1) xs)) h
-
-  pub inserted_found : (e : E) → S.first e < S.first x → inserted S e (drop i xs) ≡ e ∷ drop i xs
-  inserted_found e h =
-      ap (inserted S e) (drop_read xs i x l read) ∙ cond-true _ _ _ (lt-ltb _ _ h) ∙ ap (λ t. e ∷ t) (sym (drop_read xs i x l read))
-
-  pub inserted_more : (e : E) → S.first x ≤ S.first e → take i xs ++ inserted S e (drop i xs) ≡ take (i + 1) xs ++ inserted S e (drop (i + 1) xs)
-  inserted_more e h =
-      ap (λ t. take i xs ++ inserted S e t) (drop_read xs i x l read)
-      ∙ ap (λ t. take i xs ++ t) (cond-false _ _ _ (le-ltb _ _ h))
-      ∙ sym (append_assoc (take i xs) (x ∷ []) _)
-      ∙ ap (λ t. t ++ inserted S e (drop (i + 1) xs)) (sym (take_read xs i x l read))
-
   pub reach_on : (p q : ℕ) → holds S p x ≡ true → q ≡ end S x → reach S p (drop i xs) ≡ reach S q (drop (i + 1) xs)
   reach_on p q h is =
       ap (reach S p) (drop_read xs i x l read) ∙ ap (λ y. reach S y (drop (i + 1) xs)) (cond-true _ _ _ h ∙ sym is)
@@ -48,16 +28,31 @@ module _ {E : Type 0} (S : Shape E) (xs : List E) (i : ℕ) (x : E) (l : i < len
   reach_same p q h is =
       ap (reach S p) (drop_read xs i x l read) ∙ ap (λ y. reach S y (drop (i + 1) xs)) (cond-false _ _ _ h ∙ sym is)
 
-  pub around_found : (f g : ℕ) → S.first x < f → g < end S x → Around S f g xs i
-  around_found f g a b =
-      (l, (λ d. subst (λ y. S.first y < f) (get_or_read xs i x l read d) a), (λ d. subst (λ y. g < end S y) (get_or_read xs i x l read d) b))
-
-  pub apart_here : (f g : ℕ) → (S.first x < f → g < end S x → ⊥) → (d : E) → S.first (get_or xs i d) < f → g < end S (get_or xs i d) → ⊥
-  apart_here f g h d = subst (λ y. S.first y < f → g < end S y → ⊥) (get_or_read xs i x l read d) h
-
 inserted_last : {E : Type 0} (e : E) (xs : List E) (i : ℕ) → length xs ≤ i → take i xs ++ e ∷ drop i xs ≡ xs ++ e ∷ []
 inserted_last e xs i h = ap (λ t. t ++ e ∷ drop i xs) (take_all i xs h) ∙ ap (λ t. xs ++ e ∷ t) (drop_all i xs h)
 
-pub inserted_end : {E : Type 0} (S : Shape E) (e : E) (xs : List E) (i : ℕ) → length xs ≤ i → take i xs ++ inserted S e (drop i xs) ≡ take (length xs) xs ++ e ∷ drop (length xs) xs
-inserted_end S e xs i h =
-    ap (λ t. take i xs ++ inserted S e t) (drop_all i xs h) ∙ ap (λ t. t ++ e ∷ []) (take_all i xs h) ∙ sym (inserted_last e xs (length xs) (omega arith))
+-- the first place that passes, or else the end
+place_is : {X : Type 0} (p : X → Bool) (xs : List X) → unwrap_or (position p xs) (length xs) ≡ position_or_len p xs
+place_is p xs = known (nat_lt (position_or_len p xs) (length xs)) refl
+  where
+    known : (b : Bool) → nat_lt (position_or_len p xs) (length xs) ≡ b → unwrap_or (cond b (Some (position_or_len p xs)) None) (length xs) ≡ position_or_len p xs
+    known true h = refl
+    known false h = omega (arith, ltb-false _ _ h, prefix_len-le-length (λ x. not (p x)) xs)
+
+-- an element belongs before the first that begins behind it
+at_place : {E : Type 0} (S : Shape E) (e : E) (ys : List E) → inserted S e ys ≡ take (position_or_len (λ x. nat_lt (S.first e) (S.first x)) ys) ys ++ e ∷ drop (position_or_len (λ x. nat_lt (S.first e) (S.first x)) ys) ys
+at_place S e [] = refl
+at_place S e (y ∷ ys) = step (nat_lt (S.first e) (S.first y)) (at_place S e ys)
+  where
+    n : ℕ
+    n = position_or_len (λ x. nat_lt (S.first e) (S.first x)) ys
+
+    step : (b : Bool) → inserted S e ys ≡ take n ys ++ e ∷ drop n ys → cond b (e ∷ (y ∷ ys)) (y ∷ inserted S e ys) ≡ take (cond (not b) (1 + n) 0) (y ∷ ys) ++ e ∷ drop (cond (not b) (1 + n) 0) (y ∷ ys)
+    step true more = refl
+    step false more =
+        let one : suc n ≡ 1 + n = omega arith in
+        ap (λ t. y ∷ t) more ∙ ap (λ k. take k (y ∷ ys) ++ e ∷ drop k (y ∷ ys)) one
+
+-- or at the end
+pub inserted_place : {E : Type 0} (S : Shape E) (e : E) (xs : List E) (n : ℕ) → n ≡ unwrap_or (position (λ x. nat_lt (S.first e) (S.first x)) xs) (length xs) → inserted S e xs ≡ take n xs ++ e ∷ drop n xs
+inserted_place S e xs n at = at_place S e xs ∙ ap (λ k. take k xs ++ e ∷ drop k xs) (sym (at ∙ place_is (λ x. nat_lt (S.first e) (S.first x)) xs))

@@ -6,7 +6,7 @@ ghost use Rattle.ranges.specs.Says.{Edited, full, Inserts, Removes, Keeps, Alter
 ghost use Rattle.ranges.specs.Places.{Apart, Around};
 
 use crate::element::{Change, Element};
-use crate::range::Range;
+use crate::range::{Range, Span};
 use crate::row::{changed, trim};
 use crate::scan::{around, is_taken, place};
 
@@ -37,31 +37,29 @@ pub fn insert<E: Element>(rows: &mut [E], len: usize, e: E) -> Option<usize>
     Some(len + 1)
 }
 
-// Takes the pages from `from` to before `to` out of row `at`, which lies around them: its two parts become two rows.
-fn divide<E: Element>(rows: &mut [E], len: usize, at: usize, from: u16, to: u16)
+// Takes the span's pages out of row `at`, which lies around them: its two parts become two rows.
+fn divide<E: Element>(rows: &mut [E], len: usize, at: usize, span: Span)
     requires room { len < length rows.old }
     requires rising { rising E.Element.shape 0 (take len rows.old) ≡ true }
-    requires ordered { from ≤ to }
-    requires around { Around E.Element.shape from to (take len rows.old) at }
-    ensures { take (len + 1) rows.new ≡ removed E.Element.shape from to (take len rows.old) }
+    requires around { Around E.Element.shape span.from span.to (take len rows.old) at }
+    ensures { take (len + 1) rows.new ≡ removed E.Element.shape span.from span.to (take len rows.old) }
 {
     let e = rows[at];
-    rows[at] = e.front(from);
-    put(rows, len, at + 1, e.back(to));
+    rows[at] = e.front(span.from);
+    put(rows, len, at + 1, e.back(span.to));
 }
 
-// Takes the pages from `from` to before `to` out of a table in which no row lies around them. How many rows are left.
-fn squeeze<E: Element>(rows: &mut [E], from: u16, to: u16) -> usize
+// Takes the span's pages out of a table in which no row lies around them. How many rows are left.
+fn squeeze<E: Element>(rows: &mut [E], span: Span) -> usize
     requires rising { rising E.Element.shape 0 rows.old ≡ true }
-    requires ordered { from ≤ to }
-    requires apart { Apart E.Element.shape from to rows.old }
+    requires apart { Apart E.Element.shape span.from span.to rows.old }
     ensures within { result ≤ length rows.old }
-    ensures table { take result rows.new ≡ removed E.Element.shape from to rows.old }
+    ensures table { take result rows.new ≡ removed E.Element.shape span.from span.to rows.old }
 {
     let mut count = 0;
     for i in 0..rows.len() {
         let row = rows[i];
-        if let Some(part) = trim(row, from, to) {
+        if let Some(part) = trim(row, span) {
             rows[count] = part;
             count += 1;
         }
@@ -77,15 +75,14 @@ pub fn remove<E: Element>(rows: &mut [E], len: usize, range: Range) -> Option<us
     ensures says { IfSome result (λ n. Removes E.Element.shape range.first (range.first + range.pages) (take len rows.old) (take n rows.new)) }
     ensures rising { IfSome result (λ n. rising E.Element.shape 0 (take n rows.new) ≡ true) }
 {
-    let from = range.first();
-    let to = range.end();
-    let Some(at) = around(&rows[0..len], from, to) else {
-        return Some(squeeze(&mut rows[0..len], from, to));
+    let span = Span::from(range);
+    let Some(at) = around(&rows[0..len], span) else {
+        return Some(squeeze(&mut rows[0..len], span));
     };
     if len == rows.len() {
         return None;
     }
-    divide(rows, len, at, from, to);
+    divide(rows, len, at, span);
     Some(len + 1)
 }
 
@@ -95,10 +92,11 @@ fn extra<E: Element>(rows: &[E], page: u16) -> usize
     ensures small { result ≤ 1 }
     ensures count { length (cut_at E.Element.shape page rows.now) ≡ length rows.now + result }
 {
-    match around(rows, page, page) {
-        Some(_) => 1,
-        None => 0,
-    }
+    let cut = Span {
+        from: page,
+        to: page,
+    };
+    usize::from(around(rows, cut).is_some())
 }
 
 // Cuts the table before `page`, where there is room for it. How many rows there are then.
@@ -109,10 +107,14 @@ fn split<E: Element>(rows: &mut [E], len: usize, page: u16) -> usize
     ensures count { result ≡ length (cut_at E.Element.shape page (take len rows.old)) }
     ensures table { take result rows.new ≡ cut_at E.Element.shape page (take len rows.old) }
 {
-    let Some(at) = around(&rows[0..len], page, page) else {
+    let cut = Span {
+        from: page,
+        to: page,
+    };
+    let Some(at) = around(&rows[0..len], cut) else {
         return len;
     };
-    divide(rows, len, at, page, page);
+    divide(rows, len, at, cut);
     len + 1
 }
 
@@ -130,13 +132,13 @@ pub fn cut<E: Element>(rows: &mut [E], len: usize, page: u16) -> Option<usize>
     Some(split(rows, len, page))
 }
 
-// Changes each row in the pages from `from` to before `to`.
-fn alter<E: Element, C: Change<E>>(rows: &mut [E], from: u16, to: u16, by: &C)
+// Changes each row that lies in the span's pages.
+fn alter<E: Element, C: Change<E>>(rows: &mut [E], span: Span, by: &C)
     requires { rising E.Element.shape 0 rows.old ≡ true }
-    ensures { rows.new ≡ map (λ e. (if inside E.Element.shape from to e then C.Change.alters by.now e else e)) rows.old }
+    ensures { rows.new ≡ map (λ e. (if inside E.Element.shape span.from span.to e then C.Change.alters by.now e else e)) rows.old }
 {
-    for i in 0..rows.len() {
-        rows[i] = changed(rows[i], from, to, by);
+    for row in rows.iter_mut() {
+        *row = changed(*row, span, by);
     }
 }
 
@@ -153,14 +155,13 @@ pub fn change<E: Element, C: Change<E>>(
     ensures says { IfSome result (λ n. Alters E.Element.shape (C.Change.alters by.now) range.first (range.first + range.pages) (take len rows.old) (take n rows.new)) }
     ensures rising { IfSome result (λ n. rising E.Element.shape 0 (take n rows.new) ≡ true) }
 {
-    let from = range.first();
-    let to = range.end();
-    let more = extra(&rows[0..len], from) + extra(&rows[0..len], to);
+    let span = Span::from(range);
+    let more = extra(&rows[0..len], span.from) + extra(&rows[0..len], span.to);
     if rows.len() - len < more {
         return None;
     }
-    let half = split(rows, len, from);
-    let count = split(rows, half, to);
-    alter(&mut rows[0..count], from, to, by);
+    let half = split(rows, len, span.from);
+    let count = split(rows, half, span.to);
+    alter(&mut rows[0..count], span, by);
     Some(count)
 }

@@ -44,3 +44,22 @@ impl Range {
         first + self.pages
     }
 }
+
+// Pages from one on to before another; none where these are the same, as at a cut.
+#[derive(Clone, Copy)]
+pub struct Span {
+    pub from: u16,
+    pub to: u16,
+    ghost ordered: { from ≤ to },
+}
+
+impl From<Range> for Span {
+    ghost from_gives = { λ x r. (r.from ≡ x.first) × (r.to ≡ x.first + x.pages) };
+
+    fn from(x: Range) -> Span {
+        Span {
+            from: x.first(),
+            to: x.end(),
+        }
+    }
+}

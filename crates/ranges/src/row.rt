@@ -5,6 +5,7 @@ ghost use Rattle.ranges.specs.Shape.{Shape, Laws, end, proper, holds};
 ghost use Rattle.ranges.specs.Tables.{meets, trimmed, inside};
 
 use crate::element::{Change, Element};
+use crate::range::Span;
 
 // The page after the element's last.
 pub fn end_of<E: Element>(e: &E) -> u16
@@ -31,32 +32,31 @@ pub fn meet<E: Element>(a: &E, b: &E) -> bool
     a.first() < end_of(b) && b.first() < end_of(a)
 }
 
-// What is left without the pages from `from` to before `to`, of an element that does not lie around them.
-pub fn trim<E: Element>(e: E, from: u16, to: u16) -> Option<E>
+// What is left without the span's pages, of an element that does not lie around them.
+pub fn trim<E: Element>(e: E, span: Span) -> Option<E>
     requires proper { proper E.Element.shape e ≡ true }
-    requires ordered { from ≤ to }
-    requires apart { E.Element.shape.first e < from → to < end E.Element.shape e → ⊥ }
-    ensures { option_to_list result ≡ trimmed E.Element.shape from to e }
+    requires apart { E.Element.shape.first e < span.from → span.to < end E.Element.shape e → ⊥ }
+    ensures { option_to_list result ≡ trimmed E.Element.shape span.from span.to e }
 {
     let first = e.first();
     let end = end_of(&e);
-    if end <= from || to <= first {
+    if end <= span.from || span.to <= first {
         Some(e)
-    } else if first < from {
-        Some(e.front(from))
-    } else if to < end {
-        Some(e.back(to))
+    } else if first < span.from {
+        Some(e.front(span.from))
+    } else if span.to < end {
+        Some(e.back(span.to))
     } else {
         None
     }
 }
 
-// The element, changed if it lies in the pages from `from` to before `to`.
-pub fn changed<E: Element, C: Change<E>>(e: E, from: u16, to: u16, by: &C) -> E
+// The element, changed if it lies in the span's pages.
+pub fn changed<E: Element, C: Change<E>>(e: E, span: Span, by: &C) -> E
     requires { proper E.Element.shape e ≡ true }
-    ensures { result ≡ (if inside E.Element.shape from to e then C.Change.alters by.now e else e) }
+    ensures { result ≡ (if inside E.Element.shape span.from span.to e then C.Change.alters by.now e else e) }
 {
-    if from <= e.first() && end_of(&e) <= to {
+    if span.from <= e.first() && end_of(&e) <= span.to {
         by.apply(e)
     } else {
         e

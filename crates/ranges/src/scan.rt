@@ -1,11 +1,11 @@
 // Loops that look through a table and change nothing.
-ghost use Rattle.std.specs.Prelude.{◌≡◌, ℕ, ◌+◌, ◌-◌, ◌<◌, ◌≤◌, true, false, List, ◌∷◌, ◌++◌, length, take, drop, MatchOption};
+ghost use Rattle.std.specs.Prelude.{nat_lt, position, ◌≡◌, ℕ, ◌+◌, ◌-◌, ◌<◌, ◌≤◌, true, false, List, ◌∷◌, ◌++◌, length, take, drop, MatchOption};
 ghost use Rattle.ranges.specs.Shape.{Shape, Laws, end, proper};
 ghost use Rattle.ranges.specs.Tables.{rising, said, taken, inserted, covered};
 ghost use Rattle.ranges.specs.Places.{Apart, Around, reach};
 
 use crate::element::Element;
-use crate::range::Range;
+use crate::range::{Range, Span};
 use crate::row::{end_of, has_page, meet};
 
 // What the table says of a page.
@@ -35,26 +35,28 @@ pub fn is_taken<E: Element>(rows: &[E], e: &E) -> bool
     false
 }
 
+// The first row that begins behind `e`.
+fn behind<E: Element>(rows: &[E], e: &E) -> Option<usize>
+    ensures { result ≡ position (λ x. nat_lt (E.Element.shape.first e.now) (E.Element.shape.first x)) rows.now }
+{
+    rows.iter().position(|row| e.first() < row.first())
+}
+
 // Before which row `e` belongs.
 pub fn place<E: Element>(rows: &[E], e: &E) -> usize
     ensures within { result ≤ length rows.now }
     ensures inserted { inserted E.Element.shape e.now rows.now ≡ take result rows.now ++ e.now ∷ drop result rows.now }
 {
-    for (i, row) in rows.iter().enumerate() {
-        if e.first() < row.first() {
-            return i;
-        }
-    }
-    rows.len()
+    behind(rows, e).unwrap_or(rows.len())
 }
 
-// Which row has pages both below `from` and from `to` on.
-pub fn around<E: Element>(rows: &[E], from: u16, to: u16) -> Option<usize>
+// Which row has pages on both sides of the span.
+pub fn around<E: Element>(rows: &[E], span: Span) -> Option<usize>
     requires { rising E.Element.shape 0 rows.now ≡ true }
-    ensures { MatchOption result (Apart E.Element.shape from to rows.now) (Around E.Element.shape from to rows.now) }
+    ensures { MatchOption result (Apart E.Element.shape span.from span.to rows.now) (Around E.Element.shape span.from span.to rows.now) }
 {
     for (i, row) in rows.iter().enumerate() {
-        if row.first() < from && to < end_of(row) {
+        if row.first() < span.from && span.to < end_of(row) {
             return Some(i);
         }
     }

@@ -4,7 +4,7 @@ ghost use Rattle.ranges_tests.specs.Tags.{tagged_of, tagged_shape, tagged_laws, 
 
 use ranges::{Change, Element};
 
-#[derive(Clone, Copy)]
+#[derive(Clone, Copy, Debug, PartialEq, Eq)]
 pub struct Tagged {
     pub first: u16,
     pub pages: u16,
@@ -34,9 +34,8 @@ impl Element for Tagged {
 
     fn front(&self, page: u16) -> Tagged {
         Tagged {
-            first: self.first,
             pages: page - self.first,
-            tag: self.tag,
+            ..*self
         }
     }
 
@@ -44,7 +43,7 @@ impl Element for Tagged {
         Tagged {
             first: page,
             pages: self.pages - (page - self.first),
-            tag: self.tag,
+            ..*self
         }
     }
 
@@ -52,7 +51,7 @@ impl Element for Tagged {
         Tagged {
             first: page,
             pages: 1,
-            tag: self.tag,
+            ..*self
         }
     }
 }
@@ -68,10 +67,6 @@ impl Change<Tagged> for Retag {
     ghost still = { retagged_still };
 
     fn apply(&self, e: Tagged) -> Tagged {
-        Tagged {
-            first: e.first,
-            pages: e.pages,
-            tag: self.tag,
-        }
+        Tagged { tag: self.tag, ..e }
     }
 }

@@ -7,10 +7,10 @@ use Rattle.chains.specs.declared.End.TheVariants.{Frame, Zeros, Page}
 use Rattle.objects.specs.declared.tables.Tables.{Tables}
 use Rattle.objects.specs.View.{in_use, is_held, walk_end, walk_length, SoundTables}
 use Rattle.objects.proofs.Ends.{used_top, walk_of, walk_few, length_is}
-use Rattle.tasks.specs.declared.task.Task.{Task}
+use Rattle.tasks.specs.Tables.{Place}
 use Rattle.relation.specs.Living.{Living}
 use Rattle.relation.specs.Mirror.{Shows}
-use Rattle.relation.specs.Stands.{TasksSound, RecordsNamed, frame_of, Stands}
+use Rattle.relation.specs.Stands.{RecordsNamed, frame_of, Stands}
 use Rattle.relation.specs.Law.{MarkIn, MarksAndFrames, end_of, WalksAndSources}
 use Rattle.relation.proofs.Named.{living_named}
 use Rattle.relation.proofs.Standing.{living_rows}
@@ -23,7 +23,7 @@ unmarked_end M frame mark (Frame k) c h q = absurd (none_mark (mark k) (sym q �
 unmarked_end M frame mark Zeros c h q = sym (ap end_of h.1)
 unmarked_end M frame mark (Page m p) c h q = sym (ap end_of h.1)
 
-module _ (F : ℕ) (tasks : List Task) (t : Tables) (memory : List ℕ) (M : Meaning) (s : State) (h : Stands F tasks t memory M s) where
+module _ (F : ℕ) (tasks : List Place) (t : Tables) (memory : List ℕ) (M : Meaning) (s : State) (h : Stands F tasks t memory M s) where
   -- a living cell whose walk ends at a frame has the frame's mark and bytes
   at_frame : (r i k : ℕ) → Living (table s) r i → walk_end t r i ≡ Some (Frame k) → ((s.cells r i).mark ≡ Some (h.mark k)) × ((s.cells r i).content ≡ bytes (frame_of memory k))
   at_frame r i k l ends =
@@ -63,10 +63,10 @@ module _ (F : ℕ) (tasks : List Task) (t : Tables) (memory : List ℕ) (M : Mea
         (at_frame r i k l (f.1 ∙ ap (λ j. Some (Frame j)) same)).1;
   }
 
-  module _ (ok : TasksSound tasks) (len : length tasks ≡ 16) (used : RecordsNamed tasks t) (sound : SoundTables t) (few : (r : ℕ) → 256 ≤ r → in_use t r ≡ false) where
+  module _ (len : length tasks ≡ 16) (used : RecordsNamed tasks t) (sound : SoundTables t) (few : (r : ℕ) → 256 ≤ r → in_use t r ≡ false) where
     short : (r i : ℕ) → Living (table s) r i → walk_length t r i ≤ length (living_records s)
     short r i l =
-        let inuse = used r ∙ living_named tasks ok len r i (living_rows tasks s h.same r i l) in
+        let inuse = used r ∙ living_named tasks len r i (living_rows tasks s h.same r i l) in
         let top = used_top t r inuse in
         let w = walk_of t sound r top.0 top.1 i in
         let long = length_is t sound r top.0 top.1 i w.1 w.0 w.2 in

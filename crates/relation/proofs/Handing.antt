@@ -10,11 +10,10 @@ use Rattle.machine.specs.State.{State, table}
 use Rattle.objects.specs.declared.tables.Tables.{Tables}
 use Rattle.objects.specs.View.{is_held, walk_end, SoundTables}
 use Rattle.objects.proofs.Effects.{frame_held}
-use Rattle.tasks.specs.declared.task.Task.{Task}
-use Rattle.tasks.specs.Tables.{names}
+use Rattle.tasks.specs.Tables.{Place, names}
 use Rattle.relation.specs.Living.{Names, Living}
 use Rattle.relation.specs.Mirror.{Mirror}
-use Rattle.relation.specs.Stands.{nobody, table_of, is_record_named, frame_of, Stands}
+use Rattle.relation.specs.Stands.{table_of, is_record_named, frame_of, Stands}
 use Rattle.relation.proofs.Keeping.{Copied, Begun, keeps}
 use Rattle.relation.proofs.Rows.{SameTasks}
 use Rattle.relation.proofs.Renaming.{both_imply, set_in, set_from, from_set, row_named}
@@ -41,7 +40,7 @@ said_last S p (x ∷ xs) y z h = go (said_last S p xs y z) (holds S p x) h
     go on true h = inl h
     go on false h = on h
 
-module _ (F : ℕ) (tasks tasks' : List Task) (t t' : Tables) (memory : List ℕ) (M : Meaning) (s s' : State) (n : ℕ) (y : Entry)
+module _ (F : ℕ) (tasks tasks' : List Place) (t t' : Tables) (memory : List ℕ) (M : Meaning) (s s' : State) (n : ℕ) (y : Entry)
     (h : Stands F tasks t memory M s) (sound' : SoundTables t')
     (frames : s'.frames ≡ s.frames) (writes : s'.writes ≡ s.writes) (same : SameTasks tasks' s')
     (here : table s' n ≡ table s n ++ (y ∷ [])) (there : (u : ℕ) → (u ≡ n → ⊥) → table s' u ≡ table s u)
@@ -111,12 +110,12 @@ names_last r (x ∷ xs) y = ap (λ b. eqb x.sharing r || b) (names_last r xs y) 
     or_assoc false b c = refl
 
 -- a row with one entry more names its record too
-pub named_last : (r : ℕ) (tasks : List Task) (k : ℕ) (x : Task) (y : Entry) → k < length tasks → table_of x ≡ table_of (get_or tasks k nobody) ++ (y ∷ []) → is_record_named r (set tasks k x) ≡ (is_record_named r tasks || eqb y.sharing r)
+pub named_last : (r : ℕ) (tasks : List Place) (k : ℕ) (x : Place) (y : Entry) → k < length tasks → table_of x ≡ table_of (get_or tasks k None) ++ (y ∷ []) → is_record_named r (set tasks k x) ≡ (is_record_named r tasks || eqb y.sharing r)
 named_last r tasks k x y lt is =
     both_imply (is_record_named r (set tasks k x)) (is_record_named r tasks || eqb y.sharing r)
     (λ h.
     elim (set_from r tasks k x h) [
-      | inl a ↦ elim (or_cases (names r (table_of (get_or tasks k nobody))) (eqb y.sharing r) (sym (ap (names r) is ∙ names_last r (table_of (get_or tasks k nobody)) y) ∙ a)) [
+      | inl a ↦ elim (or_cases (names r (table_of (get_or tasks k None))) (eqb y.sharing r) (sym (ap (names r) is ∙ names_last r (table_of (get_or tasks k None)) y) ∙ a)) [
         | inl b ↦ or_left (is_record_named r tasks) (eqb y.sharing r) (row_named r tasks k b)
         | inr b ↦ or_right (is_record_named r tasks) (eqb y.sharing r) b
       ]
@@ -125,10 +124,10 @@ named_last r tasks k x y lt is =
     (λ h.
     elim (or_cases (is_record_named r tasks) (eqb y.sharing r) h) [
       | inl a ↦ elim (from_set r tasks k x a) [
-        | inl b ↦ set_in r tasks k x lt (ap (names r) is ∙ names_last r (table_of (get_or tasks k nobody)) y ∙ or_left (names r (table_of (get_or tasks k nobody))) (eqb y.sharing r) b)
+        | inl b ↦ set_in r tasks k x lt (ap (names r) is ∙ names_last r (table_of (get_or tasks k None)) y ∙ or_left (names r (table_of (get_or tasks k None))) (eqb y.sharing r) b)
         | inr b ↦ b
       ]
-      | inr b ↦ set_in r tasks k x lt (ap (names r) is ∙ names_last r (table_of (get_or tasks k nobody)) y ∙ or_right (names r (table_of (get_or tasks k nobody))) (eqb y.sharing r) b)
+      | inr b ↦ set_in r tasks k x lt (ap (names r) is ∙ names_last r (table_of (get_or tasks k None)) y ∙ or_right (names r (table_of (get_or tasks k None))) (eqb y.sharing r) b)
     ])
 
 -- Rising tables

@@ -1,5 +1,5 @@
 -- A map: one more record, and an entry on it.
-use Rattle.std.proofs.Common.{◌≡◌, ℕ, ◌+◌, ◌-◌, ◌<◌, Bool, true, false, cond, ltb, leb, ◌⊎◌, List, [], ◌∷◌, length, get_or, set, is_some, Some, None, Option, unwrap_or, sym, refl, ap, ◌∙◌, subst, inl, inr, arith}
+use Rattle.std.proofs.Common.{◌≡◌, ℕ, ◌+◌, ◌-◌, ◌<◌, Bool, true, false, cond, ltb, leb, ◌⊎◌, List, [], ◌∷◌, length, get_or, set, is_some, Some, None, Option, sym, refl, ap, ◌∙◌, subst, inl, inr, arith}
 use Rattle.std.proofs.lemmas.Bool.{both_ways, cases_eq, eq-eqb, ne_eqb, leb-true, ltb-true, ltb-false, lt-ltb, and_parts, and_from, or_parts}
 use Rattle.ranges.specs.Says.{Inserts}
 use Rattle.ranges.specs.Shape.{Shape, end, holds}
@@ -18,12 +18,11 @@ use Rattle.objects.specs.declared.tables.Tables.{Tables}
 use Rattle.objects.specs.View.{in_use, is_held, walk_end, SoundTables}
 use Rattle.objects.specs.Says.{Starts, KeepsWalks}
 use Rattle.objects.proofs.Effects.{frame_held}
-use Rattle.tasks.specs.declared.task.Task.{Task}
-use Rattle.tasks.specs.Tables.{entries}
+use Rattle.tasks.specs.Tables.{Place, shown}
 use Rattle.relation.specs.Living.{Names, Living}
 use Rattle.relation.specs.Mirror.{Shows}
 use Rattle.relation.specs.Sources.{source_of}
-use Rattle.relation.specs.Stands.{place_of, table_of, shown, TasksSound, RecordsNamed, frame_of, Stands}
+use Rattle.relation.specs.Stands.{place_of, table_of, RecordsNamed, frame_of, Stands}
 use Rattle.relation.proofs.Keeping.{Copied, Begun, keeps}
 use Rattle.relation.proofs.Rows.{same_put}
 use Rattle.relation.proofs.Named.{living_named}
@@ -60,24 +59,17 @@ abbrev pub opened : Meaning → State → ℕ → Origin → State
 opened M s q g = with_record s q (λ i. untouched M (along i (source_of g)))
 
 -- and with the task's new table
-abbrev pub mapped_state : Meaning → State → ℕ → Origin → ℕ → Task → State
+abbrev pub mapped_state : Meaning → State → ℕ → Origin → ℕ → Place → State
 mapped_state M s q g n x = with_task (opened M s q g) n (shown x)
 
-module _ (F : ℕ) (tasks : List Task) (t t' : Tables) (memory : List ℕ) (M : Meaning) (s : State) (n k q start pages : ℕ) (x : Task) (g : Origin)
-    (h : Stands F tasks t memory M s) (ok : TasksSound tasks) (len : length tasks ≡ 16) (used : RecordsNamed tasks t) (sound' : SoundTables t')
+module _ (F : ℕ) (tasks : List Place) (t t' : Tables) (memory : List ℕ) (M : Meaning) (s : State) (n k q start pages : ℕ) (x : Place) (g : Origin)
+    (h : Stands F tasks t memory M s) (len : length tasks ≡ 16) (used : RecordsNamed tasks t) (sound' : SoundTables t')
     (p : place_of n ≡ Some k) (lt : k < length tasks) (unused : in_use t q ≡ false)
     (starts : Starts t' q g) (walks : KeepsWalks t t') (frames : t'.frames ≡ t.frames)
     (law : Inserts entry_shape (fresh_entry q start pages) (table s n) (table_of x)) (free : taken entry_shape (fresh_entry q start pages) (table s n) ≡ false)
     (covers : uncovered M pages (source_of g) ≡ false) where
-  shown_table : unwrap_or (shown x) [] ≡ table_of x
-  shown_table = go x.living
-    where
-      go : (b : Bool) → unwrap_or (cond b (Some (entries x)) None) [] ≡ cond b (entries x) []
-      go true = refl
-      go false = refl
-
   table_here : table (mapped_state M s q g n x) n ≡ table_of x
-  table_here = table_same (opened M s q g) n (shown x) ∙ shown_table
+  table_here = table_same (opened M s q g) n (shown x)
 
   table_there : (u : ℕ) → (u ≡ n → ⊥) → table (mapped_state M s q g n x) u ≡ table s u
   unfolding table with_record
@@ -119,7 +111,7 @@ module _ (F : ℕ) (tasks : List Task) (t t' : Tables) (memory : List ℕ) (M : 
       go (inr ne) = record { task = l.task; page = l.page; names = subst (λ es. Names es l.page r i) (sym (table_there l.task ne)) l.names }
 
   inuse : (r i : ℕ) → Living (table s) r i → in_use t r ≡ true
-  inuse r i l = used r ∙ living_named tasks ok len r i (living_rows tasks s h.same r i l)
+  inuse r i l = used r ∙ living_named tasks len r i (living_rows tasks s h.same r i l)
 
   other : (r i : ℕ) → Living (table s) r i → r ≡ q → ⊥
   other r i l e = both_ways (in_use t r) (ap (in_use t) e ∙ unused) (inuse r i l)

@@ -1,6 +1,7 @@
 -- Records that entries name, and living cells.
-use Rattle.std.proofs.Common.{◌≡◌, ℕ, ◌+◌, ◌-◌, ◌<◌, Bool, true, false, ◌&&◌, ◌||◌, eqb, ltb, leb, List, [], ◌∷◌, ◌++◌, length, Some, None, Option, sym, refl, ap, ◌∙◌, subst, inl, inr, arith}
-use Rattle.std.specs.List.{flat_map}
+use Rattle.std.proofs.Common.{◌≡◌, ℕ, ◌+◌, ◌-◌, ◌<◌, Bool, true, false, ◌&&◌, eqb, ltb, leb, List, [], ◌∷◌, length, Some, None, Option, sym, refl, ap, ◌∙◌, subst, inl, inr, arith}
+use Rattle.std.proofs.lemmas.List.Folds.{list_any-append}
+use Rattle.std.specs.List.{list_any, flat_map}
 use Rattle.std.proofs.lemmas.Bool.{both_ways, eq-eqb, eqb-true, leb-true, ltb-true, le-leb, lt-ltb, and_parts, and_from, or_cases, or_left, or_right}
 use Rattle.ranges.specs.Shape.{proper}
 use Rattle.ranges.specs.Tables.{rising}
@@ -13,68 +14,47 @@ use Rattle.chains.specs.declared.End.{End}
 use Rattle.chains.specs.declared.End.TheVariants.{Frame, Zeros, Page}
 use Rattle.objects.specs.declared.tables.Tables.{Tables}
 use Rattle.objects.specs.View.{walk_end}
-use Rattle.tasks.specs.declared.task.Task.{Task}
-use Rattle.tasks.specs.Tables.{names}
+use Rattle.tasks.specs.Tables.{Place}
 use Rattle.relation.specs.Living.{Living}
-use Rattle.relation.specs.Stands.{place_of, table_of, task_at, tables_of, is_record_named, TasksSound}
-use Rattle.relation.specs.Sweeps.{ends_at, covers_index, is_reaching, is_frame_reached, Reached}
+use Rattle.relation.specs.Stands.{place_of, table_of, task_at, tables_of, is_record_named}
+use Rattle.relation.specs.Sweeps.{ends_at, covers_index, is_frame_reached, Reached}
 use Rattle.relation.specs.Orderly.{Orderly}
 use Rattle.relation.proofs.Lists.{Among, among_joined, among_part}
 use Rattle.relation.proofs.Cells.{entry_lives, lives_entry, has_number}
 use Rattle.relation.proofs.Rows.{SameTasks, orderly, all_rows}
 
 -- a state with the tasks of the rows, and nothing in its cells
-unfoldable pub picture : List Task → State
+unfoldable pub picture : List Place → State
 picture tasks = record { frames = 0; tasks = λ n. task_at tasks (place_of n); cells = λ r i. record { content = bytes []; source = zeros; mark = None }; writes = 0 }
 
-pub picture_same : (tasks : List Task) → SameTasks tasks (picture tasks)
+pub picture_same : (tasks : List Place) → SameTasks tasks (picture tasks)
 unfolding picture
 picture_same tasks n = refl
 
 -- Tests for a member of a list of entries
 
 -- some entry of the list passes the test
-abbrev pub any : (Entry → Bool) → List Entry → Bool
-any p [] = false
-any p (e ∷ es) = p e || any p es
-
-pub any_among : (p : Entry → Bool) (es : List Entry) → any p es ≡ true → (e : Entry) × Among e es × (p e ≡ true)
+pub any_among : (p : Entry → Bool) (es : List Entry) → list_any p es ≡ true → (e : Entry) × Among e es × (p e ≡ true)
 any_among p [] h = absurd (both_ways false refl h)
 any_among p (e ∷ es) h =
-    elim (or_cases (p e) (any p es) h) [
+    elim (or_cases (p e) (list_any p es) h) [
       | inl q ↦ (e, inl refl, q)
       | inr k ↦ let r = any_among p es k in (r.0, inr r.1, r.2)
     ]
 
-pub among_any : (p : Entry → Bool) (e : Entry) (es : List Entry) → Among e es → p e ≡ true → any p es ≡ true
+pub among_any : (p : Entry → Bool) (e : Entry) (es : List Entry) → Among e es → p e ≡ true → list_any p es ≡ true
 among_any p e [] a q = absurd a
-among_any p e (y ∷ ys) (inl same) q = or_left (p y) (any p ys) (subst (λ z. p z ≡ true) same q)
-among_any p e (y ∷ ys) (inr a) q = or_right (p y) (any p ys) (among_any p e ys a q)
-
-pub names_any : (r : ℕ) (es : List Entry) → names r es ≡ any (λ e. eqb e.sharing r) es
-names_any r [] = refl
-names_any r (e ∷ es) = ap (λ b. eqb e.sharing r || b) (names_any r es)
-
-reaches_any : (t : Tables) (k i : ℕ) (es : List Entry) → is_reaching t k i es ≡ any (λ e. covers_index i e && ends_at (walk_end t e.sharing i) k) es
-reaches_any t k i [] = refl
-reaches_any t k i (e ∷ es) = ap (λ b. (covers_index i e && ends_at (walk_end t e.sharing i) k) || b) (reaches_any t k i es)
-
-any_append : (p : Entry → Bool) (xs ys : List Entry) → any p (xs ++ ys) ≡ (any p xs || any p ys)
-any_append p [] ys = refl
-any_append p (x ∷ xs) ys = ap (λ b. p x || b) (any_append p xs ys) ∙ sym (or_assoc (p x) (any p xs) (any p ys))
-  where
-    or_assoc : (a b c : Bool) → ((a || b) || c) ≡ (a || (b || c))
-    or_assoc true b c = refl
-    or_assoc false b c = refl
+among_any p e (y ∷ ys) (inl same) q = or_left (p y) (list_any p ys) (subst (λ z. p z ≡ true) same q)
+among_any p e (y ∷ ys) (inr a) q = or_right (p y) (list_any p ys) (among_any p e ys a q)
 
 -- the tests over all tasks are tests over all entries
-pub named_any : (r : ℕ) (tasks : List Task) → is_record_named r tasks ≡ any (λ e. eqb e.sharing r) (flat_map table_of tasks)
+pub named_any : (r : ℕ) (tasks : List Place) → is_record_named r tasks ≡ list_any (λ e. eqb e.sharing r) (flat_map table_of tasks)
 named_any r [] = refl
-named_any r (x ∷ xs) = rw (names_any r (table_of x), named_any r xs) (sym (any_append (λ e. eqb e.sharing r) (table_of x) (flat_map table_of xs)))
+named_any r (x ∷ xs) = rw (named_any r xs) (sym (list_any-append (λ e. eqb e.sharing r) (table_of x) (flat_map table_of xs)))
 
-pub reached_any : (t : Tables) (k i : ℕ) (tasks : List Task) → is_frame_reached t k i tasks ≡ any (λ e. covers_index i e && ends_at (walk_end t e.sharing i) k) (flat_map table_of tasks)
+pub reached_any : (t : Tables) (k i : ℕ) (tasks : List Place) → is_frame_reached t k i tasks ≡ list_any (λ e. covers_index i e && ends_at (walk_end t e.sharing i) k) (flat_map table_of tasks)
 reached_any t k i [] = refl
-reached_any t k i (x ∷ xs) = rw (reaches_any t k i (table_of x), reached_any t k i xs) (sym (any_append (λ e. covers_index i e && ends_at (walk_end t e.sharing i) k) (table_of x) (flat_map table_of xs)))
+reached_any t k i (x ∷ xs) = rw (reached_any t k i xs) (sym (list_any-append (λ e. covers_index i e && ends_at (walk_end t e.sharing i) k) (table_of x) (flat_map table_of xs)))
 
 -- Living cells of the rows
 
@@ -90,9 +70,9 @@ pub some_pages : (e : Entry) → proper entry_shape e ≡ true → 0 < e.pages
 some_pages e h =
     ltb-true 0 e.pages (and_parts (ltb 0 e.pages) (leb (e.first + e.pages) 4096) (and_parts (ltb 0 e.pages && leb (e.first + e.pages) 4096) (leb (e.index + e.pages) 4096) h).0).0
 
-module _ (tasks : List Task) (ok : TasksSound tasks) (len : length tasks ≡ 16) where
+module _ (tasks : List Place) (len : length tasks ≡ 16) where
   order : Orderly (picture tasks)
-  order = orderly tasks (picture tasks) (picture_same tasks) ok
+  order = orderly tasks (picture tasks) (picture_same tasks)
 
   -- an entry of the rows is a task's
   entry_task : (e : Entry) → Among e (flat_map table_of tasks) → (n : ℕ) × Among n numbers × Among e (table (picture tasks) n)

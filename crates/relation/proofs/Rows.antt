@@ -8,13 +8,12 @@ use Rattle.machine.specs.declared.words.Entry.{Entry}
 use Rattle.machine.specs.Entries.{entry_shape}
 use Rattle.machine.specs.State.{State, numbers, table, lives, all_entries}
 use Rattle.machine.specs.Step.{misnumbered, missing, with_task}
-use Rattle.tasks.specs.declared.task.Task.{Task}
-use Rattle.tasks.specs.Tables.{entries, sound}
-use Rattle.relation.specs.Stands.{place_of, nobody, table_of, shown, task_at, TasksSound}
+use Rattle.tasks.specs.Tables.{Place, shown}
+use Rattle.relation.specs.Stands.{place_of, table_of, task_at}
 use Rattle.relation.specs.Orderly.{Orderly}
 
 -- the machine has the tasks of the rows
-abbrev pub SameTasks : List Task → State → Type 0
+abbrev pub SameTasks : List Place → State → Type 0
 SameTasks tasks s = (n : ℕ) → s.tasks n ≡ task_at tasks (place_of n)
 
 -- Places
@@ -65,75 +64,62 @@ place_next k l =
 
 -- One row replaced
 
-set_other : (tasks : List Task) (k : ℕ) (x : Task) (p : Option ℕ) → (p ≡ Some k → ⊥) → task_at (set tasks k x) p ≡ task_at tasks p
+set_other : (tasks : List Place) (k : ℕ) (x : Place) (p : Option ℕ) → (p ≡ Some k → ⊥) → task_at (set tasks k x) p ≡ task_at tasks p
 set_other tasks k x None ne = refl
-set_other tasks k x (Some j) ne = ap shown (get_or-set_other tasks k j x nobody (λ e. ne (ap Some e)))
+set_other tasks k x (Some j) ne = ap shown (get_or-set_other tasks k j x None (λ e. ne (ap Some e)))
 
-put_task : (tasks : List Task) (s : State) (n k : ℕ) (x : Task) → SameTasks tasks s → place_of n ≡ Some k → k < length tasks → (u : ℕ) → ((u ≡ n) ⊎ (u ≡ n → ⊥)) → (with_task s n (shown x)).tasks u ≡ task_at (set tasks k x) (place_of u)
+put_task : (tasks : List Place) (s : State) (n k : ℕ) (x : Place) → SameTasks tasks s → place_of n ≡ Some k → k < length tasks → (u : ℕ) → ((u ≡ n) ⊎ (u ≡ n → ⊥)) → (with_task s n (shown x)).tasks u ≡ task_at (set tasks k x) (place_of u)
 unfolding with_task
 put_task tasks s n k x h p lt u (inl e) =
-    rw (eq-eqb u n e, e, p, get_or-set_same tasks k x nobody lt) refl
+    rw (eq-eqb u n e, e, p, get_or-set_same tasks k x None lt) refl
 put_task tasks s n k x h p lt u (inr ne) =
     rw (ne_eqb u n ne) (h u ∙ sym (set_other tasks k x (place_of u) (λ q. ne (place_same n u k p q))))
 
 -- a row that is replaced stands for a task that is replaced
-pub same_put : (tasks : List Task) (s : State) (n k : ℕ) (x : Task) → SameTasks tasks s → place_of n ≡ Some k → k < length tasks → SameTasks (set tasks k x) (with_task s n (shown x))
+pub same_put : (tasks : List Place) (s : State) (n k : ℕ) (x : Place) → SameTasks tasks s → place_of n ≡ Some k → k < length tasks → SameTasks (set tasks k x) (with_task s n (shown x))
 same_put tasks s n k x h p lt u = put_task tasks s n k x h p lt u (cases_eq u n)
 
 -- Tables
 
-value_shown : (x : Task) → unwrap_or (shown x) [] ≡ table_of x
-value_shown x = go x.living
-  where
-    go : (b : Bool) → unwrap_or (cond b (Some (entries x)) None) [] ≡ cond b (entries x) []
-    go true = refl
-    go false = refl
-
 -- a task's table, by its row
-pub table_row : (tasks : List Task) (s : State) (n k : ℕ) → SameTasks tasks s → place_of n ≡ Some k → table s n ≡ table_of (get_or tasks k nobody)
+pub table_row : (tasks : List Place) (s : State) (n k : ℕ) → SameTasks tasks s → place_of n ≡ Some k → table s n ≡ table_of (get_or tasks k None)
 unfolding table
-table_row tasks s n k h p = ap (λ o. unwrap_or o []) (h n ∙ ap (task_at tasks) p) ∙ value_shown (get_or tasks k nobody)
+table_row tasks s n k h p = ap (λ o. unwrap_or o []) (h n ∙ ap (task_at tasks) p)
 
-pub table_none : (tasks : List Task) (s : State) (n : ℕ) → SameTasks tasks s → place_of n ≡ None → table s n ≡ []
+pub table_none : (tasks : List Place) (s : State) (n : ℕ) → SameTasks tasks s → place_of n ≡ None → table s n ≡ []
 unfolding table
 table_none tasks s n h p = ap (λ o. unwrap_or o []) (h n ∙ ap (task_at tasks) p)
 
--- a sound task's table rises
-pub table_rises : (x : Task) → sound x ≡ true → rising entry_shape 0 (table_of x) ≡ true
-table_rises x h = go x.living
-  where
-    go : (b : Bool) → rising entry_shape 0 (cond b (entries x) []) ≡ true
-    go true = (and_parts (leb x.len 16) (rising entry_shape 0 (entries x)) h).1
-    go false = refl
+-- every task's table rises
+pub table_rises : (x : Place) → rising entry_shape 0 (table_of x) ≡ true
+table_rises None = refl
+table_rises (Some t) = t.ordered
 
 -- the machine's tables are orderly
-pub orderly : (tasks : List Task) (s : State) → SameTasks tasks s → TasksSound tasks → Orderly s
-orderly tasks s h sound = record {
+pub orderly : (tasks : List Place) (s : State) → SameTasks tasks s → Orderly s
+orderly tasks s h = record {
   rises = λ n. go n (place_of n) refl;
   numbered = λ n e. table_none tasks s n h (place_misnumbered n e);
 }
   where
     go : (n : ℕ) (p : Option ℕ) → place_of n ≡ p → rising entry_shape 0 (table s n) ≡ true
     go n None e = rw (table_none tasks s n h e) refl
-    go n (Some k) e = rw (table_row tasks s n k h e) (table_rises (get_or tasks k nobody) (sound k))
+    go n (Some k) e = rw (table_row tasks s n k h e) (table_rises (get_or tasks k None))
 
 -- whether the task lives, by its row
-lives_shown : (x : Task) → is_some (shown x) ≡ x.living
-lives_shown x = go x.living
-  where
-    go : (b : Bool) → is_some (cond b (Some (entries x)) None) ≡ b
-    go true = refl
-    go false = refl
+lives_shown : (x : Place) → is_some (shown x) ≡ is_some x
+lives_shown None = refl
+lives_shown (Some t) = refl
 
-pub lives_row : (tasks : List Task) (s : State) (n k : ℕ) → SameTasks tasks s → place_of n ≡ Some k → lives s n ≡ (get_or tasks k nobody).living
+pub lives_row : (tasks : List Place) (s : State) (n k : ℕ) → SameTasks tasks s → place_of n ≡ Some k → lives s n ≡ is_some (get_or tasks k None)
 unfolding lives
-lives_row tasks s n k h p = ap is_some (h n ∙ ap (task_at tasks) p) ∙ lives_shown (get_or tasks k nobody)
+lives_row tasks s n k h p = ap is_some (h n ∙ ap (task_at tasks) p) ∙ lives_shown (get_or tasks k None)
 
 pub missing_outside : (s : State) (n : ℕ) → place_of n ≡ None → missing s n ≡ true
 unfolding missing
 missing_outside s n p = rw (outside n p) refl
 
-pub missing_row : (tasks : List Task) (s : State) (n k : ℕ) → SameTasks tasks s → place_of n ≡ Some k → missing s n ≡ not (get_or tasks k nobody).living
+pub missing_row : (tasks : List Place) (s : State) (n k : ℕ) → SameTasks tasks s → place_of n ≡ Some k → missing s n ≡ not (is_some (get_or tasks k None))
 unfolding missing
 missing_row tasks s n k h p = rw (inside n k p, lives_row tasks s n k h p) refl
 
@@ -143,7 +129,7 @@ counting_from : ℕ → ℕ → List ℕ
 counting_from i zero = []
 counting_from i (suc n) = i ∷ counting_from (suc i) n
 
-joined_rows : (f : ℕ → List Entry) (xs : List Task) (i : ℕ) → ((j : ℕ) → j < length xs → f (i + j) ≡ table_of (get_or xs j nobody)) → flat_map f (counting_from i (length xs)) ≡ flat_map table_of xs
+joined_rows : (f : ℕ → List Entry) (xs : List Place) (i : ℕ) → ((j : ℕ) → j < length xs → f (i + j) ≡ table_of (get_or xs j None)) → flat_map f (counting_from i (length xs)) ≡ flat_map table_of xs
 unfolding counting_from
 joined_rows f [] i h = refl
 joined_rows f (x ∷ xs) i h =
@@ -152,7 +138,7 @@ joined_rows f (x ∷ xs) i h =
     rw (first, rest) refl
 
 -- the entries of all tasks, row by row
-pub all_rows : (tasks : List Task) (s : State) → SameTasks tasks s → length tasks ≡ 16 → all_entries s ≡ flat_map table_of tasks
+pub all_rows : (tasks : List Place) (s : State) → SameTasks tasks s → length tasks ≡ 16 → all_entries s ≡ flat_map table_of tasks
 unfolding all_entries numbers counting_from
 all_rows tasks s h len =
     subst (λ n. flat_map (table s) (counting_from 1 n) ≡ flat_map table_of tasks) len

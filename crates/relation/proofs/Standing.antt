@@ -12,10 +12,9 @@ use Rattle.machine.specs.Step.{with_task}
 use Rattle.objects.specs.declared.tables.Tables.{Tables}
 use Rattle.objects.specs.View.{in_use, is_held, walk_end, SoundTables}
 use Rattle.objects.proofs.Effects.{frame_held}
-use Rattle.tasks.specs.declared.task.Task.{Task}
-use Rattle.tasks.specs.Tables.{entries}
+use Rattle.tasks.specs.Tables.{Place, shown}
 use Rattle.relation.specs.Living.{Names, Living, WithinCells, Quiet}
-use Rattle.relation.specs.Stands.{place_of, table_of, shown, tables_of, is_record_named, TasksSound, RecordsNamed, frame_of, Stands}
+use Rattle.relation.specs.Stands.{place_of, table_of, tables_of, is_record_named, RecordsNamed, frame_of, Stands}
 use Rattle.relation.specs.Sweeps.{Swept, Cleared}
 use Rattle.relation.proofs.Keeping.{keeps}
 use Rattle.relation.proofs.Rows.{SameTasks, same_put}
@@ -31,48 +30,41 @@ pub table_other : (s : State) (n : ℕ) (o : Option (List Entry)) (u : ℕ) → 
 unfolding table with_task
 table_other s n o u ne = rw (ne_eqb u n ne) refl
 
-shown_table : (x : Task) → unwrap_or (shown x) [] ≡ table_of x
-shown_table x = go x.living
-  where
-    go : (b : Bool) → unwrap_or (cond b (Some (entries x)) None) [] ≡ cond b (entries x) []
-    go true = refl
-    go false = refl
-
 -- the living cells of a state with one task replaced
-living_back : (s : State) (n : ℕ) (x : Task) → WithinCells (table_of x) (table s n) → (r i : ℕ) → Living (table (with_task s n (shown x))) r i → Living (table s) r i
+living_back : (s : State) (n : ℕ) (x : Place) → WithinCells (table_of x) (table s n) → (r i : ℕ) → Living (table (with_task s n (shown x))) r i → Living (table s) r i
 living_back s n x within r i l = go (cases_eq l.task n)
   where
     go : (l.task ≡ n) ⊎ (l.task ≡ n → ⊥) → Living (table s) r i
     go (inl e) = record {
       task = n;
       page = l.page;
-      names = within l.page r i (subst (λ es. Names es l.page r i) (ap (table (with_task s n (shown x))) e ∙ table_same s n (shown x) ∙ shown_table x) l.names);
+      names = within l.page r i (subst (λ es. Names es l.page r i) (ap (table (with_task s n (shown x))) e ∙ table_same s n (shown x)) l.names);
     }
     go (inr ne) = record { task = l.task; page = l.page; names = subst (λ es. Names es l.page r i) (table_other s n (shown x) l.task ne) l.names }
 
-living_on : (s : State) (n : ℕ) (x : Task) → WithinCells (table s n) (table_of x) → (r i : ℕ) → Living (table s) r i → Living (table (with_task s n (shown x))) r i
+living_on : (s : State) (n : ℕ) (x : Place) → WithinCells (table s n) (table_of x) → (r i : ℕ) → Living (table s) r i → Living (table (with_task s n (shown x))) r i
 living_on s n x within r i l = go (cases_eq l.task n)
   where
     go : (l.task ≡ n) ⊎ (l.task ≡ n → ⊥) → Living (table (with_task s n (shown x))) r i
     go (inl e) = record {
       task = n;
       page = l.page;
-      names = subst (λ es. Names es l.page r i) (sym (table_same s n (shown x) ∙ shown_table x)) (within l.page r i (subst (λ es. Names es l.page r i) (ap (table s) e) l.names));
+      names = subst (λ es. Names es l.page r i) (sym (table_same s n (shown x))) (within l.page r i (subst (λ es. Names es l.page r i) (ap (table s) e) l.names));
     }
     go (inr ne) = record { task = l.task; page = l.page; names = subst (λ es. Names es l.page r i) (sym (table_other s n (shown x) l.task ne)) l.names }
 
 -- the machine's tables are those of the rows
-pub living_rows : (tasks : List Task) (s : State) → SameTasks tasks s → (r i : ℕ) → Living (table s) r i → Living (tables_of tasks) r i
+pub living_rows : (tasks : List Place) (s : State) → SameTasks tasks s → (r i : ℕ) → Living (table s) r i → Living (tables_of tasks) r i
 unfolding table
 living_rows tasks s h r i l = record { task = l.task; page = l.page; names = subst (λ es. Names es l.page r i) (ap (λ o. unwrap_or o []) (h l.task)) l.names }
 
-pub rows_living : (tasks : List Task) (s : State) → SameTasks tasks s → (r i : ℕ) → Living (tables_of tasks) r i → Living (table s) r i
+pub rows_living : (tasks : List Place) (s : State) → SameTasks tasks s → (r i : ℕ) → Living (tables_of tasks) r i → Living (table s) r i
 unfolding table
 rows_living tasks s h r i l = record { task = l.task; page = l.page; names = subst (λ es. Names es l.page r i) (ap (λ o. unwrap_or o []) (sym (h l.task))) l.names }
 
 -- A call that changes tables alone, and names the same cells
 
-pub stands_retabled : (F : ℕ) (tasks : List Task) (t : Tables) (memory : List ℕ) (M : Meaning) (s : State) (n k : ℕ) (x : Task) →
+pub stands_retabled : (F : ℕ) (tasks : List Place) (t : Tables) (memory : List ℕ) (M : Meaning) (s : State) (n k : ℕ) (x : Place) →
     Stands F tasks t memory M s → place_of n ≡ Some k → k < length tasks → WithinCells (table_of x) (table s n) → WithinCells (table s n) (table_of x) →
     Stands F (set tasks k x) t memory M (with_task s n (shown x))
 unfolding with_task
@@ -93,19 +85,19 @@ stands_retabled F tasks t memory M s n k x h p lt back on =
 
 -- A call that takes cells from a task, closes what no entry names and frees what no walk reaches
 
-pub stands_less : (F : ℕ) (tasks : List Task) (t t₁ t₂ : Tables) (memory : List ℕ) (M : Meaning) (s : State) (n k : ℕ) (x : Task) →
-    Stands F tasks t memory M s → TasksSound tasks → TasksSound (set tasks k x) → length tasks ≡ 16 → length (set tasks k x) ≡ 16 → RecordsNamed tasks t → SoundTables t₂ →
+pub stands_less : (F : ℕ) (tasks : List Place) (t t₁ t₂ : Tables) (memory : List ℕ) (M : Meaning) (s : State) (n k : ℕ) (x : Place) →
+    Stands F tasks t memory M s → length tasks ≡ 16 → length (set tasks k x) ≡ 16 → RecordsNamed tasks t → SoundTables t₂ →
     place_of n ≡ Some k → k < length tasks → WithinCells (table_of x) (table s n) →
     Swept (λ r. is_record_named r (set tasks k x)) t t₁ → Cleared (set tasks k x) t₁ t₂ →
     Stands F (set tasks k x) t₂ memory M (with_task s n (shown x))
 unfolding with_task
-stands_less F tasks t t₁ t₂ memory M s n k x h ok ok' len len' used sound₂ p lt back swept cleared =
+stands_less F tasks t t₁ t₂ memory M s n k x h len len' used sound₂ p lt back swept cleared =
     let s' = with_task s n (shown x) in
     let same = same_put tasks s n k x h.same p lt in
     let old : (r i : ℕ) → Living (table s') r i → Living (table s) r i = living_back s n x back in
     let rows : (r i : ℕ) → Living (table s') r i → Living (tables_of (set tasks k x)) r i = living_rows (set tasks k x) s' same in
-    let inuse : (r i : ℕ) → Living (table s) r i → in_use t r ≡ true = λ r i l. used r ∙ living_named tasks ok len r i (living_rows tasks s h.same r i l) in
-    let keep : (r i : ℕ) → Living (table s') r i → is_record_named r (set tasks k x) ≡ true = λ r i l. living_named (set tasks k x) ok' len' r i (rows r i l) in
+    let inuse : (r i : ℕ) → Living (table s) r i → in_use t r ≡ true = λ r i l. used r ∙ living_named tasks len r i (living_rows tasks s h.same r i l) in
+    let keep : (r i : ℕ) → Living (table s') r i → is_record_named r (set tasks k x) ≡ true = λ r i l. living_named (set tasks k x) len' r i (rows r i l) in
     record {
       frames = h.frames;
       same = same;

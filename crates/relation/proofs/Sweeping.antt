@@ -5,9 +5,9 @@ use Rattle.chains.specs.declared.Owner.{Owner}
 use Rattle.objects.specs.declared.tables.Tables.{Tables}
 use Rattle.objects.specs.View.{in_use, is_held, walk_end, owner_of}
 use Rattle.objects.specs.Says.{UsesLess, KeepsOthers, KeepsWithout, KeepsOwners, FreesOnly, index_of}
-use Rattle.tasks.specs.declared.task.Task.{Task}
+use Rattle.tasks.specs.Tables.{Place}
 use Rattle.relation.specs.Living.{Living}
-use Rattle.relation.specs.Stands.{tables_of, is_record_named, TasksSound}
+use Rattle.relation.specs.Stands.{tables_of, is_record_named}
 use Rattle.relation.specs.Sweeps.{Swept, Reached, Cleared}
 use Rattle.relation.proofs.Named.{living_named}
 
@@ -98,16 +98,16 @@ swept_all keep t a few s = record {
 -- Frames
 
 -- the frames below j have been looked at
-pub record Clearing (tasks : List Task) (t a : Tables) (j : ℕ) : Type 0 where
+pub record Clearing (tasks : List Place) (t a : Tables) (j : ℕ) : Type 0 where
   pub uses : (r : ℕ) → in_use a r ≡ in_use t r
   pub walks : (r i : ℕ) → Living (tables_of tasks) r i → walk_end a r i ≡ walk_end t r i
   pub frees : (k : ℕ) → is_held a k ≡ true → is_held t k ≡ true
   pub reached : (k : ℕ) → k < j → is_held a k ≡ true → Reached tasks a k
 
-pub clearing_none : (tasks : List Task) (t : Tables) → Clearing tasks t t 0
+pub clearing_none : (tasks : List Place) (t : Tables) → Clearing tasks t t 0
 clearing_none tasks t = record { uses = λ r. refl; walks = λ r i l. refl; frees = λ k h. h; reached = λ k l h. absurd (omega arith) }
 
-pub clearing_reached : (tasks : List Task) (t a : Tables) (j : ℕ) → Reached tasks a j → Clearing tasks t a j → Clearing tasks t a (j + 1)
+pub clearing_reached : (tasks : List Place) (t a : Tables) (j : ℕ) → Reached tasks a j → Clearing tasks t a j → Clearing tasks t a (j + 1)
 clearing_reached tasks t a j r c = record {
   uses = c.uses;
   walks = c.walks;
@@ -115,9 +115,9 @@ clearing_reached tasks t a j r c = record {
   reached = λ k l h. elim (cases_eq k j) [ inl e ↦ subst (Reached tasks a) (sym e) r | inr ne ↦ c.reached k (omega arith) h ];
 }
 
-pub clearing_freed : (tasks : List Task) (t a b : Tables) (j : ℕ) → TasksSound tasks → length tasks ≡ 16 → ((r : ℕ) → is_record_named r tasks ≡ true → in_use t r ≡ true) → (Reached tasks a j → ⊥) → Clearing tasks t a j →
+pub clearing_freed : (tasks : List Place) (t a b : Tables) (j : ℕ) → length tasks ≡ 16 → ((r : ℕ) → is_record_named r tasks ≡ true → in_use t r ≡ true) → (Reached tasks a j → ⊥) → Clearing tasks t a j →
     b.records ≡ a.records → owner_of b j ≡ None → KeepsOwners a b j → KeepsWithout a b j → Clearing tasks t b (j + 1)
-clearing_freed tasks t a b j ok len used none c records free owners without = record {
+clearing_freed tasks t a b j len used none c records free owners without = record {
   uses = λ r. ap (λ (rs : List (Option ℕ)). is_some (get_or rs r None)) records ∙ c.uses r;
   walks = λ r i l. same r i l ∙ c.walks r i l;
   frees = λ k h. elim (cases_eq k j) [ inl e ↦ absurd (gone k e h) | inr ne ↦ c.frees k (ap is_some (sym (owners k ne)) ∙ h) ];
@@ -125,7 +125,7 @@ clearing_freed tasks t a b j ok len used none c records free owners without = re
 }
   where
     same : (r i : ℕ) → Living (tables_of tasks) r i → walk_end b r i ≡ walk_end a r i
-    same r i l = without r i (c.uses r ∙ used r (living_named tasks ok len r i l)) (λ e. none (record { sharing = r; index = i; lives = l; ends = e }))
+    same r i l = without r i (c.uses r ∙ used r (living_named tasks len r i l)) (λ e. none (record { sharing = r; index = i; lives = l; ends = e }))
 
     gone : (k : ℕ) → k ≡ j → is_held b k ≡ true → ⊥
     gone k e h = both_ways true (sym h ∙ ap (is_held b) e ∙ ap is_some free) refl
@@ -133,7 +133,7 @@ clearing_freed tasks t a b j ok len used none c records free owners without = re
     on : (k : ℕ) → Reached tasks a k → Reached tasks b k
     on k r = record { sharing = r.sharing; index = r.index; lives = r.lives; ends = same r.sharing r.index r.lives ∙ r.ends }
 
-pub cleared_all : (tasks : List Task) (t a : Tables) → ((k : ℕ) → 128 ≤ k → is_held a k ≡ false) → Clearing tasks t a 128 → Cleared tasks t a
+pub cleared_all : (tasks : List Place) (t a : Tables) → ((k : ℕ) → 128 ≤ k → is_held a k ≡ false) → Clearing tasks t a 128 → Cleared tasks t a
 cleared_all tasks t a few c = record {
   uses = c.uses;
   walks = c.walks;

@@ -1,25 +1,22 @@
 -- Records in use, and the records that the machine's entries name.
-use Rattle.std.proofs.Common.{◌≡◌, ℕ, zero, suc, ◌*◌, ◌<◌, ◌≤◌, Bool, true, false, cond, not, eqb, leb, List, [], ◌∷◌, length, get_or, Some, sym, ap, ◌∙◌, subst, inl, inr, arith, length-append}
+use Rattle.std.proofs.Common.{◌≡◌, ℕ, zero, suc, ◌*◌, ◌<◌, ◌≤◌, true, false, not, eqb, List, [], ◌∷◌, length, get_or, Some, None, sym, ap, ◌∙◌, subst, inl, inr, arith, length-append}
 use Rattle.std.specs.List.{flat_map}
-use Rattle.std.proofs.lemmas.Bool.{both_ways, cases_lt, eq-eqb, eqb-true, leb-true, and_parts, not-false, not-true}
+use Rattle.std.proofs.lemmas.Bool.{both_ways, cases_lt, eq-eqb, eqb-true, not-false, not-true}
 use Rattle.std.proofs.lemmas.List.{length-take}
-use Rattle.ranges.specs.Tables.{rising}
 use Rattle.machine.specs.declared.words.Entry.{Entry}
-use Rattle.machine.specs.Entries.{entry_shape}
 use Rattle.machine.specs.State.{State, all_entries, living_records, new_record}
 use Rattle.chains.proofs.Finds.{lowest_some}
 use Rattle.objects.specs.declared.tables.Tables.{Tables}
 use Rattle.objects.specs.View.{in_use, records_used}
 use Rattle.objects.specs.Says.{unused_record}
-use Rattle.tasks.specs.declared.task.Task.{Task}
-use Rattle.tasks.specs.Tables.{entries, sound}
-use Rattle.relation.specs.Stands.{nobody, table_of, TasksSound, RecordsNamed}
+use Rattle.tasks.specs.Tables.{Place, Task, entries}
+use Rattle.relation.specs.Stands.{table_of, RecordsNamed}
 use Rattle.relation.proofs.Lists.{Among, among_map, among_unmap}
 use Rattle.relation.proofs.Rows.{SameTasks, all_rows}
 use Rattle.relation.proofs.Named.{picture, picture_same, any_among, among_any, named_any}
 use Rattle.relation.proofs.Tallies.{records_of, count_records, records_few, new_is}
 
-module _ (tasks : List Task) (t : Tables) (used : RecordsNamed tasks t) (len : length tasks ≡ 16) (few : (r : ℕ) → 256 ≤ r → in_use t r ≡ false) where
+module _ (tasks : List Place) (t : Tables) (used : RecordsNamed tasks t) (len : length tasks ≡ 16) (few : (r : ℕ) → 256 ≤ r → in_use t r ≡ false) where
   below : (r : ℕ) → in_use t r ≡ true → r < 256
   below r h = elim (cases_lt r 256) [ inl l ↦ l | inr l ↦ absurd (both_ways (in_use t r) (few r l) h) ]
 
@@ -58,26 +55,21 @@ module _ (tasks : List Task) (t : Tables) (used : RecordsNamed tasks t) (len : l
 
 -- Entries of all tasks
 
--- a sound task has at most 16 entries
-pub entries_few : (x : Task) → sound x ≡ true → length (entries x) ≤ 16
-entries_few x h =
-    let few = leb-true x.len 16 (and_parts (leb x.len 16) (rising entry_shape 0 (entries x)) h).0 in
-    omega (arith, few, length-take x.len x.rows)
+-- a task has at most 16 entries
+pub entries_few : (x : Task) → length (entries x) ≤ 16
+entries_few x = omega (arith, x.fit, length-take x.len x.rows)
 
-pub table_few : (x : Task) → sound x ≡ true → length (table_of x) ≤ 16
-table_few x h = go x.living
-  where
-    go : (b : Bool) → length (cond b (entries x) []) ≤ 16
-    go true = entries_few x h
-    go false = omega arith
+pub table_few : (x : Place) → length (table_of x) ≤ 16
+table_few None = omega arith
+table_few (Some t) = entries_few t
 
 -- the tasks have at most 16 entries each
-pub rows_few : (tasks : List Task) → TasksSound tasks → length (flat_map table_of tasks) ≤ 16 * length tasks
-rows_few [] ok = omega arith
-rows_few (x ∷ xs) ok = omega (arith, length-append (table_of x) (flat_map table_of xs), table_few x (ok 0), rows_few xs (λ k. ok (suc k)))
+pub rows_few : (tasks : List Place) → length (flat_map table_of tasks) ≤ 16 * length tasks
+rows_few [] = omega arith
+rows_few (x ∷ xs) = omega (arith, length-append (table_of x) (flat_map table_of xs), table_few x, rows_few xs)
 
 -- and one less if one of them is not full
-pub rows_fewer : (tasks : List Task) (k : ℕ) → TasksSound tasks → k < length tasks → length (table_of (get_or tasks k nobody)) < 16 → length (flat_map table_of tasks) < 16 * length tasks
-rows_fewer [] k ok l h = absurd (omega arith)
-rows_fewer (x ∷ xs) zero ok l h = omega (arith, length-append (table_of x) (flat_map table_of xs), rows_few xs (λ k. ok (suc k)))
-rows_fewer (x ∷ xs) (suc k) ok l h = omega (arith, length-append (table_of x) (flat_map table_of xs), table_few x (ok 0), rows_fewer xs k (λ j. ok (suc j)) (omega arith) h)
+pub rows_fewer : (tasks : List Place) (k : ℕ) → k < length tasks → length (table_of (get_or tasks k None)) < 16 → length (flat_map table_of tasks) < 16 * length tasks
+rows_fewer [] k l h = absurd (omega arith)
+rows_fewer (x ∷ xs) zero l h = omega (arith, length-append (table_of x) (flat_map table_of xs), rows_few xs)
+rows_fewer (x ∷ xs) (suc k) l h = omega (arith, length-append (table_of x) (flat_map table_of xs), table_few x, rows_fewer xs k (omega arith) h)

@@ -1,28 +1,28 @@
--- A task's table as a list.
-use Rattle.std.specs.Prelude.{◌≡◌, ℕ, Bool, true, false, ◌&&◌, ◌||◌, List, [], ◌∷◌, length, take, ◌==◌, nat_le, nat_lt}
-use Rattle.ranges.specs.Tables.{rising}
+-- A task's table as a list, and the place where a task lives or none does.
+use Rattle.std.specs.Prelude.{ℕ, Bool, List, Option, ◌==◌}
+use Rattle.std.specs.List.{list_any}
+use Rattle.std.specs.Option.{option_map}
 use Rattle.machine.specs.declared.words.Entry.{Entry}
-use Rattle.machine.specs.Entries.{entry_shape}
-use Rattle.tasks.specs.declared.task.Task.{Task}
+use Rattle.machine.specs.contracts.entry.EntryElement.TheImpl.{ghosts}
+use Rattle.ranges.specs.declared.table.Table.{Table}
+use Rattle.ranges.specs.Held.{held}
+
+-- a task is a table of at most 16 entries
+abbrev pub Task : Type 0
+Task = Table Entry 16 ghosts
 
 -- the entries of a task
 abbrev pub entries : Task → List Entry
-entries t = take t.len t.rows
+entries t = held t
 
--- the table is one: in its rows, and rising
-abbrev pub sound : Task → Bool
-sound t = nat_le t.len 16 && rising entry_shape 0 (entries t)
+-- where a task lives, or none does
+abbrev pub Place : Type 0
+Place = Option Task
 
--- the table has over 16 entries
-abbrev pub overfull : List Entry → Bool
-overfull es = nat_lt 16 (length es)
-
--- the task's table becomes another one, which is sound, if the edit is allowed; otherwise the task is as it was
-abbrev pub Becomes : Task → Task → List Entry → Bool → Bool → Type 0
-Becomes old new es allowed true = (allowed ≡ true) × (entries new ≡ es) × (new.living ≡ old.living) × (sound new ≡ true)
-Becomes old new es allowed false = (allowed ≡ false) × (new ≡ old)
+-- the entries of the task at a place, if one lives there
+abbrev pub shown : Place → Option (List Entry)
+shown place = option_map entries place
 
 -- an entry is on the record
 abbrev pub names : ℕ → List Entry → Bool
-names r [] = false
-names r (e ∷ es) = e.sharing == r || names r es
+names r es = list_any (λ e. e.sharing == r) es

@@ -1,7 +1,6 @@
-// A task: whether it lives, and its table of map entries.
+// Tasks: tables of map entries, and the places where they live.
 #![tactic(auto)]
 
-mod table;
 mod task;
 
-pub use task::Task;
+pub use task::{Place, Task, idle, names, started};

@@ -1,10 +1,43 @@
-// What a task holds.
-use machine::Entry;
+// What a task is, and the place where it lives.
+ghost use Rattle.std.specs.Prelude.{◌≡◌, [], Some, None};
+ghost use Rattle.tasks.specs.Tables.{entries, shown, names};
 
-// A task's table is the first `len` of its rows. A task that does not live has none.
-#[derive(Clone, Copy)]
-pub struct Task {
-    pub living: bool,
-    pub len: usize,
-    pub rows: [Entry; 16],
+use machine::{Entry, Inheritance, Protection};
+use ranges::Table;
+
+// A task: its map entries, at most 16 of them.
+pub type Task = Table<Entry, 16>;
+
+// The place of a task: none lives there if it is empty.
+pub type Place = Option<Task>;
+
+// What the rows of a table without entries hold.
+const UNUSED: Entry = Entry {
+    first: 0,
+    pages: 0,
+    protection: Protection::None,
+    inheritance: Inheritance::None,
+    sharing: 0,
+    index: 0,
+};
+
+// A place where no task lives.
+pub fn idle() -> Place
+    ensures { shown result ≡ None }
+{
+    None
+}
+
+// A place where a task lives that has no entries.
+pub fn started() -> Place
+    ensures { shown result ≡ Some [] }
+{
+    Some(Table::new(UNUSED))
+}
+
+// Whether an entry of the task is on the record.
+pub fn names(task: &Task, sharing: u8) -> bool
+    ensures { result ≡ names sharing (entries task.now) }
+{
+    task.rows().iter().any(|row| row.sharing == sharing)
 }

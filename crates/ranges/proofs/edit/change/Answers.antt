@@ -1,4 +1,4 @@
-use Rattle.std.proofs.Common.{◌≡◌, ◌+◌, ◌-◌, ◌<◌, ◌≤◌, ◌++◌, length, take, refl, ap, ◌∙◌, arith, rules}
+use Rattle.std.proofs.Common.{◌≡◌, ◌+◌, ◌-◌, ◌<◌, ◌≤◌, ◌++◌, length, take, refl, ap, ◌∙◌, arith}
 use borrow.Rule.Slice.PartMut.{post_of}
 use Rattle.std.proofs.lemmas.List.{length-append, length-take-le}
 use Rattle.ranges.specs.Tables.{altered}
@@ -10,9 +10,9 @@ use Rattle.ranges.proofs.edit.change.Goals as goal
 pub returns-then-rows-len : goal.returns-then-rows-len
 returns-then-rows-len g c =
     let some = c.args.range.some in
-    let low : c.first-from.result < c.end-to.result = omega (arith, c.first-from.ensures, c.end-to.ensures) in
+    let low : c.from-span.result.from < c.from-span.result.to = omega (arith, c.from-span.ensures.0, c.from-span.ensures.1) in
     record {
-      edited = (change_full g.E.Element.shape g.E.Element.laws c.args.rows.now c.args.len c.requires.within c.requires.rising c.first-from.result c.end-to.result low _ _ c.extra.ensures.count c.extra-2.ensures.count (g.C.Change.alters c.args.by.now) _ _ c.first-from.ensures c.end-to.ensures c.if-rows-len.true, refl);
+      edited = (change_full g.E.Element.shape g.E.Element.laws c.args.rows.now c.args.len c.requires.within c.requires.rising c.from-span.result.from c.from-span.result.to low _ _ c.extra.ensures.count c.extra-2.ensures.count (g.C.Change.alters c.args.by.now) _ _ c.from-span.ensures.0 c.from-span.ensures.1 c.if-rows-len.true, refl);
       says = tt;
       rising = tt;
     }
@@ -24,7 +24,7 @@ split-count-requires g c =
     let L = g.E.Element.laws in
     let xs = c.args.rows.now in
     let ys = c.split-half.new.rows in
-    let low : c.first-from.result < c.end-to.result = omega (arith, c.first-from.ensures, c.end-to.ensures) in
+    let low : c.from-span.result.from < c.from-span.result.to = omega (arith, c.from-span.ensures.0, c.from-span.ensures.1) in
     let long : length ys ≡ length xs = omega (arith, c.split-half.auto.rows) in
     record {
       within = half_within S L xs c.args.len c.requires.within c.requires.rising _ _ low _ _ c.extra.ensures.count c.extra-2.ensures.count ys _ c.if-rows-len.false long c.split-half.ensures.count c.split-half.ensures.table;
@@ -32,21 +32,10 @@ split-count-requires g c =
       room = half_room S L xs c.args.len c.requires.within c.requires.rising _ _ low _ _ c.extra.ensures.count c.extra-2.ensures.count ys _ c.if-rows-len.false long c.split-half.ensures.count c.split-half.ensures.table;
     }
 
-pub slice_bounds-alter-end : goal.slice_bounds-alter-end
-slice_bounds-alter-end g c =
-    let some = c.args.range.some in
-    let low : c.first-from.result < c.end-to.result = omega (arith, c.first-from.ensures, c.end-to.ensures) in
-    let ys = c.split-half.new.rows in
-    let zs = c.split-count.new.rows in
-    let long : length ys ≡ length c.args.rows.now = omega (arith, c.split-half.auto.rows) in
-    let long' : length zs ≡ length ys = omega (arith, c.split-count.auto.rows) in
-    let bound : c.split-count.result ≤ length zs = all_within g.E.Element.shape g.E.Element.laws c.args.rows.now c.args.len c.requires.within c.requires.rising _ _ low _ _ c.extra.ensures.count c.extra-2.ensures.count ys _ c.if-rows-len.false long c.split-half.ensures.count c.split-half.ensures.table zs _ long' c.split-count.ensures.count c.split-count.ensures.table in
-    search rules
-
 pub alter-requires : goal.alter-requires
 alter-requires g c =
     let some = c.args.range.some in
-    let low : c.first-from.result < c.end-to.result = omega (arith, c.first-from.ensures, c.end-to.ensures) in
+    let low : c.from-span.result.from < c.from-span.result.to = omega (arith, c.from-span.ensures.0, c.from-span.ensures.1) in
     let ys = c.split-half.new.rows in
     let zs = c.split-count.new.rows in
     let long : length ys ≡ length c.args.rows.now = omega (arith, c.split-half.auto.rows) in
@@ -69,11 +58,11 @@ returns g c =
     let len = c.args.len in
     let f = c.args.range.first in
     let to = f + c.args.range.pages in
-    let low : c.first-from.result < c.end-to.result = omega (arith, c.first-from.ensures, c.end-to.ensures) in
+    let low : c.from-span.result.from < c.from-span.result.to = omega (arith, c.from-span.ensures.0, c.from-span.ensures.1) in
     let long : length ys ≡ length xs = omega (arith, c.split-half.auto.rows) in
     let long' : length zs ≡ length ys = omega (arith, c.split-count.auto.rows) in
     let bound : n ≤ length zs = all_within S L xs len c.requires.within c.requires.rising _ _ low _ _ c.extra.ensures.count c.extra-2.ensures.count ys _ c.if-rows-len.false long c.split-half.ensures.count c.split-half.ensures.table zs _ long' c.split-count.ensures.count c.split-count.ensures.table in
-    let is : take n (ws ++ rest) ≡ altered S h f to (take len xs) = altered_is S L xs len c.requires.within c.requires.rising _ _ low _ _ c.extra.ensures.count c.extra-2.ensures.count ys _ c.if-rows-len.false long c.split-half.ensures.count c.split-half.ensures.table zs _ long' c.split-count.ensures.count c.split-count.ensures.table h f to ws rest c.first-from.ensures c.end-to.ensures c.alter.auto.rows c.alter.ensures in
+    let is : take n (ws ++ rest) ≡ altered S h f to (take len xs) = altered_is S L xs len c.requires.within c.requires.rising _ _ low _ _ c.extra.ensures.count c.extra-2.ensures.count ys _ c.if-rows-len.false long c.split-half.ensures.count c.split-half.ensures.table zs _ long' c.split-count.ensures.count c.split-count.ensures.table h f to ws rest c.from-span.ensures.0 c.from-span.ensures.1 c.alter.auto.rows c.alter.ensures in
     let room : n ≤ length xs = omega arith in
     let size : length ws ≡ n = c.alter.auto.rows ∙ ap length (used zs n) ∙ length-take-le n zs bound in
     let count : n ≡ length (altered S h f to (take len xs)) = count_is n (ws ++ rest) _ (omega (arith, length-append ws rest)) is in

@@ -21,7 +21,6 @@ divide-requires g c =
     record {
       room = omega (arith, c.requires.room);
       rising = c.requires.rising;
-      ordered = omega arith;
       around = around_used S p p len _ xs c.in-Some.ensures;
     }
 

@@ -1,6 +1,4 @@
 use Rattle.std.proofs.Common.{sym, ◌∙◌}
-use Rattle.std.proofs.lemmas.List.{at_drop_all}
-use Rattle.ranges.specs.Places.{reach}
 use Rattle.ranges.proofs.Scans.{proper_read, reach_on, reach_same}
 use Rattle.ranges.proofs.scan.reached.Goals as goal
 use Rattle.ranges.proofs.scan.reached.Goals.{then-has_page, else-has_page}
@@ -18,6 +16,3 @@ loop-row-preserved g c =
       | then-has_page w ↦ reach_on S _ _ _ c.loop-row-test.true c.row-item.is _ _ (sym c.has_page.ensures ∙ w.if-has_page.true) (w.page-is ∙ w.end_of-page.ensures)
       | else-has_page w ↦ reach_same S _ _ _ c.loop-row-test.true c.row-item.is _ _ (sym c.has_page.ensures ∙ w.if-has_page.false) w.page-is
     ]
-
-pub returns : goal.returns
-returns g c = sym (c.loop-row.invariant ∙ at_drop_all (reach g.E.Element.shape c.loop-row.page) _ _ c.loop-row-test.false)
