@@ -7,14 +7,6 @@ pub bit_le : (b : Bool) → bit b ≤ 1
 bit_le true = omega arith
 bit_le false = omega arith
 
--- one more
-pub sum_more : (n : ℕ) (f : ℕ → ℕ) → sum_to (n + 1) f ≡ sum_to n f + f n
-unfolding sum_to
-sum_more n f = ap (λ k. sum_to k f) (add_one' n)
-  where
-    add_one' : (n : ℕ) → n + 1 ≡ suc n
-    add_one' n = omega arith
-
 pub sum_same : (n : ℕ) (f g : ℕ → ℕ) → ((k : ℕ) → k < n → f k ≡ g k) → sum_to n f ≡ sum_to n g
 unfolding sum_to
 sum_same zero f g h = refl

@@ -13,9 +13,9 @@ use Rattle.chains.proofs.Sums.{count_le, count_but, sum_full}
 use Rattle.chains.proofs.Finds.{lowest_some, lowest_none, none_some, slot_is, bare_none}
 use Rattle.chains.proofs.Weights.{bit_true}
 use Rattle.chains.proofs.Counting.{objects_few, objects_fewer}
-use Rattle.chains.proofs.Changes.{opened, grown_walk, fresh_bare, copied, shaded, shaded_walk, shaded_alone, placed, placed_here, placed_walk, released, released_walk, unnamed, unnamed_settled, used_below, alone_name, alone_shadow}
+use Rattle.chains.proofs.Changes.{opened, grown_walk, fresh_bare, copied, shaded, shaded_walk, shaded_alone, placed, placed_here, placed_walk, released, released_walk, unnamed, used_below, alone_name, alone_shadow}
 use Rattle.objects.specs.declared.tables.Tables.{Tables}
-use Rattle.objects.specs.View.{backing, owner_of, top_of, in_use, is_held, walk_end, walk_length, weight_of, with_top, with_root, with_shadow, with_frame, without_frame, FormedTables, SoundTables, OthersSettled, SettledFrom}
+use Rattle.objects.specs.View.{backing, owner_of, top_of, in_use, is_held, walk_end, walk_length, weight_of, with_top, with_root, with_shadow, with_frame, without_frame, FormedTables, SoundTables, SettledFrom}
 use Rattle.objects.specs.Says.{unused_record, Starts, Copies, KeepsWalks, KeepsOthers, KeepsApart, KeepsWithout, UsesSame, index_of, HoldsReached, other_frame}
 use Rattle.objects.proofs.Edits.{set_put}
 use Rattle.objects.proofs.Ends.{WalksIn, used_top, end_is, length_is, same_end, top_chain, frame_fixes}
@@ -128,9 +128,6 @@ module _ (t : Tables) (S : SoundTables t) (r o : ℕ) (wide : length t.records �
 
   pub close_formed : FormedTables unnamed_tables
   close_formed = unnamed 511 256 128 (backing t) (owner_of t) (top_of t) (top_of unnamed_tables) o r top close_records S.formed
-
-  pub close_others : OthersSettled unnamed_tables o
-  close_others = unnamed_settled 511 256 128 (backing t) (owner_of t) (top_of t) (top_of unnamed_tables) o r top close_records S.formed S.settled
 
   module _ (t' : Tables) (settles : SettledFrom unnamed_tables t') where
     close_tops : (k : ℕ) → top_of t' k ≡ top_of unnamed_tables k
