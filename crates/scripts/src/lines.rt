@@ -33,7 +33,8 @@ impl fmt::Display for HexByte {
 
     #[tactic(auto, using(std::proofs::lemmas::Fmt::hex_byte))]
     fn fmt<W: fmt::Write>(&self, f: &mut fmt::Formatter<W>) -> fmt::Result {
-        write!(f, "{:02x}", self.0)
+        let byte = self.0;
+        write!(f, "{byte:02x}")
     }
 }
 
