@@ -78,6 +78,7 @@ impl Engine {
     }
 
     // How much is in use. No task has an entry yet.
+    #[tactic(auto, using(crate::proofs::Tasks::no_entries), unfolding(machine::specs::Step::step, machine::specs::Step::counted, machine::specs::State::living_records, machine::specs::State::living_marks, machine::specs::State::living_cells, machine::specs::State::distinct))]
     pub fn usage(&self) -> Usage
         ensures { (M : Meaning) (s : State) → Represents self.now s → Follows M s usage (counted result) self.now }
     {
