@@ -1,3 +1,1 @@
 pub mod Tasks
-pub mod Places
-pub mod Relation

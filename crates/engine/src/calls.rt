@@ -32,7 +32,7 @@ impl From<Refusal> for u8 {
 
 impl Engine {
     // A new engine has the smaller of n and 128 frames, and no task.
-    #[tactic(auto, using(crate::proofs::Tasks::stands_start), unfolding(machine::specs::State::start))]
+    #[tactic(auto, unfolding(machine::specs::State::start))]
     pub fn new(n: usize) -> Engine
         ensures { Represents result (start n) }
     {
@@ -56,6 +56,7 @@ impl Engine {
     }
 
     // Makes a task without entries.
+    #[tactic(auto, unfolding(machine::specs::Step::step, machine::specs::Step::created, machine::specs::Step::judged, machine::specs::Step::refuse, machine::specs::Step::accepted, machine::specs::Step::misnumbered, machine::specs::State::lives, machine::specs::Step::with_task))]
     pub fn create(&mut self, task: u8) -> Result<(), Refusal>
         ensures refusal { is_ok result ≡ false → self.new ≡ self.old }
         ensures machine { (M : Meaning) (s : State) → Represents self.old s → Follows M s (create task) (outcome result) self.new }
@@ -66,6 +67,7 @@ impl Engine {
     }
 
     // Ends a task.
+    #[tactic(auto, unfolding(machine::specs::Step::step, machine::specs::Step::ended, machine::specs::Step::judged, machine::specs::Step::refuse, machine::specs::Step::accepted, machine::specs::Step::missing, machine::specs::Step::misnumbered, machine::specs::State::lives, machine::specs::Step::with_task))]
     pub fn exit(&mut self, task: u8) -> Result<(), Refusal>
         ensures refusal { is_ok result ≡ false → self.new ≡ self.old }
         ensures machine { (M : Meaning) (s : State) → Represents self.old s → Follows M s (exit task) (outcome result) self.new }
@@ -76,6 +78,7 @@ impl Engine {
     }
 
     // How much is in use. No task has an entry yet.
+    #[tactic(auto, using(crate::proofs::Tasks::no_entries), unfolding(machine::specs::Step::step, machine::specs::Step::counted, machine::specs::State::living_records, machine::specs::State::living_marks, machine::specs::State::living_cells, machine::specs::State::distinct))]
     pub fn usage(&self) -> Usage
         ensures { (M : Meaning) (s : State) → Represents self.now s → Follows M s usage (counted result) self.now }
     {

@@ -3,8 +3,7 @@ use Rattle.std.proofs.Common.{◌≡◌, ℕ, zero, suc, ◌+◌, ◌-◌, ◌<�
 use Rattle.std.specs.List.{IsSplitAt}
 use Rattle.std.proofs.lemmas.List.{take_all}
 use Rattle.std.proofs.lemmas.Bool.{lt-ltb, le-ltb}
-use Rattle.std.proofs.lemmas.Bool.Decides.{nat_tests}
-use Rattle.scripts.specs.Records.{Item, cut_short, two, meant, reading, items, item_of, byte, on_tasks, Reads}
+use Rattle.scripts.specs.Records.{cut_short, two, meant, reading, items, item_of, Reads}
 use Rattle.scripts.specs.declared.reader.Command.{Command}
 use Rattle.scripts.specs.declared.reader.BadRecord.{BadRecord}
 
@@ -66,8 +65,3 @@ reads_more (a ∷ b ∷ s) n body after r h e k t =
     let q : IsSplitAt s n body after = rw (take_rest 2 (a ∷ b ∷ s)) at k in
     let more : items (a ∷ b ∷ s) ≡ meant (take n s) ∷ items (drop n s) = rw e (items_more a b s (omega arith)) in
     record { begins = more ∙ rw (← q.1, ← q.2, t) refl; shorter = omega arith }
-
--- a record that is on neither ranges nor bytes
-pub others : (r : List ℕ) (i : Item) → i ≡ on_tasks r → (1 ≤ length r → 2 ≤ byte 0 r → byte 0 r ≤ 6 → ⊥) → (1 ≤ length r → 8 ≤ byte 0 r → byte 0 r ≤ 9 → ⊥) → i ≡ meant r
-others [] i e g h = e
-others (op ∷ r) i e g h = grind (arith, nat_tests)

@@ -74,10 +74,10 @@ fn call(engine: &mut Engine, command: Command) -> Result<Reply, Trouble>
 
 // Performs a record.
 #[tactic(auto, unfolding(crate::specs::Transcript::answered, crate::specs::Transcript::moved))]
-fn perform(engine: &mut Engine, record: Record) -> Result<Reply, Trouble>
-    ensures { (M : Meaning) (s : State) → Represents engine.old s → Answers M s (item_of record.entry) result engine.new }
+fn perform(engine: &mut Engine, item: Record) -> Result<Reply, Trouble>
+    ensures { (M : Meaning) (s : State) → Represents engine.old s → Answers M s (item_of item.entry) result engine.new }
 {
-    call(engine, record?)
+    call(engine, item?)
 }
 
 // Appends the line of a record.

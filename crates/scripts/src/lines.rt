@@ -24,6 +24,20 @@ impl fmt::Display for Spaced<'_> {
     }
 }
 
+// A byte, printed as two lower-case hexadecimal digits.
+#[derive(Clone, Copy)]
+struct HexByte(u8);
+
+impl fmt::Display for HexByte {
+    ghost output = { λ b. Some (hex b.0) };
+
+    #[tactic(auto, using(std::proofs::lemmas::Fmt::hex_byte))]
+    fn fmt<W: fmt::Write>(&self, f: &mut fmt::Formatter<W>) -> fmt::Result {
+        let byte = self.0;
+        write!(f, "{byte:02x}")
+    }
+}
+
 // Bytes, printed in hexadecimal and joined. One type for these and the numbers would need a slice of wrapped items.
 #[derive(Clone, Copy)]
 struct Hex<'a>(&'a [u8]);
@@ -33,7 +47,7 @@ impl fmt::Display for Hex<'_> {
 
     fn fmt<W: fmt::Write>(&self, f: &mut fmt::Formatter<W>) -> fmt::Result {
         for &byte in self.0 {
-            write!(f, "{byte:02x}")?;
+            write!(f, "{}", HexByte(byte))?;
         }
         Ok(())
     }

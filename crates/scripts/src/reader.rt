@@ -132,6 +132,7 @@ fn byte_command(body: &[u8]) -> Option<Command<'_>>
 }
 
 // The command of a record, from its bytes after the length; none if they are not one.
+#[tactic(auto, using(std::proofs::lemmas::Bool::Decides::nat_tests))]
 fn parsed(body: &[u8]) -> Option<Command<'_>>
     ensures { item_of (ok_or result BadRecord.Malformed) ≡ meant body.now }
 {
