@@ -130,7 +130,8 @@ impl Store {
         Some(fresh)
     }
 
-    // Closes a record, and frees or collapses what it leaves behind. False if it is not in use.
+    // Closes a record, and frees or collapses what it leaves behind. False if it is not in use: a bool, as a set's `remove`
+    // answers, since there is no value to give and one reason alone; so too for `release`.
     pub fn close(&mut self, sharing: u8) -> bool
         ensures answer { result ≡ in_use self.old.tables sharing }
         ensures refused { result ≡ false → self.new.tables ≡ self.old.tables }
@@ -149,7 +150,8 @@ impl Store {
 
     // The place for a write: the frame comes to belong to the record's top at the index, whether it was free, stays or
     // moves up; if something else refers to the top, a new shadow comes between first. False if the record is not in
-    // use, there is no such frame, or another frame is there in a top to which nothing else refers.
+    // use, there is no such frame, or another frame is there in a top to which nothing else refers: a bool and no error with
+    // a case for each, since the contract gives it as one test, `placeable`, and no caller would tell the cases apart.
     pub fn put(&mut self, sharing: u8, index: u16, slot: u8) -> bool
         ensures answer { result ≡ placeable self.old.tables sharing index slot }
         ensures own { TakesOwn self.old.tables sharing index slot result }

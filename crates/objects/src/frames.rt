@@ -5,7 +5,8 @@ ghost use Rattle.chains.specs.Walks.{dropped, lifted};
 use crate::scan::frame_of;
 use chains::Owner;
 
-// A frame's owner once `lower` has collapsed into `upper`, which has the frames `before`.
+// A frame's owner once `lower` has collapsed into `upper`, which has the frames `before`. The two objects stay two numbers: a
+// pair of them would be made for one collapse, and taken apart in each function that it is handed to.
 fn risen(
     before: &[Option<Owner>; 128],
     owner: Option<Owner>,

@@ -4,7 +4,7 @@ ghost use Rattle.ranges.specs.Shape.{Shape, Laws, Altering, end, front_of, back_
 
 use crate::range::Range;
 
-// Something said of each page of a range, such as a map entry.
+// Something said of each page of a range, such as a map entry. It is a plain row, so the methods ask that it is proper.
 pub trait Element: Copy {
     ghost shape: { Shape Self };
 

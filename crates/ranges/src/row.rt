@@ -1,4 +1,5 @@
-// Tests and cuts of one element.
+// Tests and cuts of one element. Each asks that the element is proper: rows are plain structs, as the project's rule says, so a
+// row carries no such fact, and the tables that hold rows know it of theirs.
 ghost use Rattle.std.specs.Prelude.{◌≡◌, ℕ, ◌+◌, ◌<◌, ◌≤◌, true, if◌then◌else◌};
 ghost use Rattle.std.specs.Option.{option_to_list};
 ghost use Rattle.ranges.specs.Shape.{Shape, Laws, end, proper, holds};
