@@ -55,7 +55,8 @@ impl Engine {
         }
     }
 
-    // Makes a task without entries.
+    // Makes a task without entries. It differs from `exit` in three constants; the two are calls of their own, each with a
+    // contract in the machine's words, and a function of both would have its three lines and be called by each.
     #[tactic(auto, unfolding(machine::specs::Step::step, machine::specs::Step::created, machine::specs::Step::judged, machine::specs::Step::refuse, machine::specs::Step::accepted, machine::specs::Step::misnumbered, machine::specs::State::lives, machine::specs::Step::with_task))]
     pub fn create(&mut self, task: u8) -> Result<(), Refusal>
         ensures refusal { is_ok result ≡ false → self.new ≡ self.old }

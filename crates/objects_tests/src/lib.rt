@@ -12,9 +12,9 @@ mod tests {
         store.walk(sharing, index).map(|walk| walk.end)
     }
 
-    // How many objects it visits, or 0.
-    fn visits(store: &Store, sharing: u8, index: u16) -> u16 {
-        store.walk(sharing, index).map_or(0, |walk| walk.length)
+    // How many objects it visits.
+    fn visits(store: &Store, sharing: u8, index: u16) -> Option<u16> {
+        store.walk(sharing, index).map(|walk| walk.length)
     }
 
     // Each generation copies the last, writes one page and closes the last: all objects collapse into one.
@@ -43,7 +43,7 @@ mod tests {
                 page: 69095
             })
         );
-        assert_eq!(rt; visits(&store, last, 4095), 1);
+        assert_eq!(rt; visits(&store, last, 4095), Some(1));
         assert_eq!(rt; store.held(), 120);
         assert_eq!(rt; store.records_in_use(), 1);
         Ok(())
@@ -59,13 +59,13 @@ mod tests {
             assert_eq!(rt; last, g);
             assert!(rt; store.put(last, g as u16 % 8, g));
         }
-        assert_eq!(rt; visits(&store, 40, 100), 41);
+        assert_eq!(rt; visits(&store, 40, 100), Some(41));
         for g in 0..20u8 {
             assert!(rt; store.close(g));
             assert!(rt; store.close(40 - g));
         }
         assert_eq!(rt; store.records_in_use(), 1);
-        assert_eq!(rt; visits(&store, 20, 100), 1);
+        assert_eq!(rt; visits(&store, 20, 100), Some(1));
         assert_eq!(rt; end(&store, 20, 100), Some(End::Zeros));
         // Page 0 was last written by record 16, page 4 by record 20, page 5 by record 13.
         assert_eq!(rt; end(&store, 20, 0), Some(End::Frame(16)));
@@ -90,7 +90,7 @@ mod tests {
         assert_eq!(rt; store.open(Origin::Zeros), None);
         assert_eq!(rt; store.copy(0), None);
         assert_eq!(rt; end(&store, 0, 3), Some(End::Frame(0)));
-        assert_eq!(rt; visits(&store, 0, 4), 256);
+        assert_eq!(rt; visits(&store, 0, 4), Some(256));
         assert!(rt; store.close(77));
         assert!(rt; !store.close(77));
         assert_eq!(rt; store.copy(77), None);
