@@ -14,6 +14,7 @@ pub struct Table<E: Element, const N: usize> {
     ghost ordered: { rising E.Element.shape 0 (take len rows) ≡ true },
 }
 
+// Copied as it is. The two are written out, since a derive is refused over a type parameter and a ghost field.
 impl<E: Element, const N: usize> Copy for Table<E, N> {}
 
 impl<E: Element, const N: usize> Clone for Table<E, N> {
