@@ -10,7 +10,7 @@ ghost use Rattle.pagers.specs.Layouts.{over};
 use crate::extent::Extent;
 use crate::layout::Layout;
 use crate::reading;
-use ranges::Table;
+use ranges::{Table, fits};
 
 // The file is no image.
 #[derive(Clone, Copy, PartialEq, Eq, Debug)]
@@ -20,7 +20,7 @@ pub struct BadImage;
 fn is_within(e: &Extent, pages: u16) -> bool
     ensures { result ≡ within pages e.now }
 {
-    e.pages > 0 && e.pages <= pages && e.first <= pages - e.pages
+    fits(e.first, e.pages, pages)
 }
 
 impl Layout {

@@ -1,11 +1,12 @@
 -- A table cut at both ends of a range and changed between them.
-use Rattle.std.proofs.Common.{◌≡◌, ℕ, ◌+◌, ◌-◌, ◌<◌, ◌≤◌, Bool, true, false, cond, ◌⊎◌, List, [], ◌∷◌, ◌++◌, map, length, get_or, take, drop, set, Some, None, Option, sym, refl, ap, ◌∙◌, inl, inr, ⊎_elim, append_assoc, arith}
+use Rattle.std.proofs.Common.{◌≡◌, ℕ, ◌+◌, ◌-◌, ◌<◌, ◌≤◌, Bool, true, false, cond, ◌⊎◌, List, [], ◌∷◌, ◌++◌, map, length, get_or, take, drop, set, Some, None, Option, sym, refl, ap, ◌∙◌, inl, inr, ⊎_elim, arith}
 use Rattle.std.proofs.lemmas.List.{length-append, length-map, length-take-le, get_or-append_right, get_or-drop, take_at}
+use Rattle.std.proofs.lemmas.Grind.{flat_map-append}
 use Rattle.std.proofs.lemmas.List.Edits.{map_over_more}
 use Rattle.std.proofs.lemmas.Bool.{and_from, and_left, and_right, lt-ltb, le-ltb, le-leb, lt-leb, cond-true, cond-false, cases_lt}
 use Rattle.std.specs.Option.{option_map}
 use Rattle.ranges.specs.Shape.{Shape, Laws, Altering, end, front_of, back_of, one_of}
-use Rattle.ranges.specs.Tables.{rising, said, trimmed, removed, cut, inside, altered}
+use Rattle.ranges.specs.Tables.{rising, said, trimmed, cut, inside, altered}
 use Rattle.ranges.specs.Says.{full, among, Alters}
 use Rattle.ranges.proofs.Facts.{Proper, used, Rising, rising_facts, rising_from, rising_lower, said_here, said_past}
 use Rattle.ranges.proofs.Trims.{Trim, left, right, around, over_first, over_last, inside as within, trim, trimmed_left, trimmed_right, trimmed_around}
@@ -30,11 +31,6 @@ module _ {E : Type 0} (h : E → E) (xs ys : List E) (i : ℕ) (l : i < length x
 abbrev pub Clear : {E : Type 0} → Shape E → ℕ → List E → Type 0
 Clear S p [] = Unit {0}
 Clear S p (e ∷ es) = ((end S e ≤ p) ⊎ (p ≤ S.first e)) × Clear S p es
-
-removed_append : {E : Type 0} (S : Shape E) (f g : ℕ) (xs ys : List E) → removed S f g (xs ++ ys) ≡ removed S f g xs ++ removed S f g ys
-removed_append S f g [] ys = refl
-removed_append S f g (x ∷ xs) ys =
-    ap (λ t. trimmed S f g x ++ t) (removed_append S f g xs ys) ∙ sym (append_assoc (trimmed S f g x) (removed S f g xs) (removed S f g ys))
 
 module _ {E : Type 0} (S : Shape E) (L : Laws S) where
   cut_clear : (n p : ℕ) (es : List E) → Rising S n es → Clear S p (cut S p es)
@@ -104,7 +100,7 @@ module _ {E : Type 0} (S : Shape E) (L : Laws S) where
         arith,
         two_cuts (end S e) f g es l up.2,
         two_cuts_one f g e l up.0,
-        ap length (removed_append S g g (trimmed S f f e) (cut S f es)),
+        ap length (flat_map-append (trimmed S g g) (trimmed S f f e) (cut S f es)),
         length-append (cut S g (trimmed S f f e)) (cut S g (cut S f es)),
         length-append (trimmed S f f e) (cut S f es),
         length-append (trimmed S g g e) (cut S g es),

@@ -21,6 +21,10 @@ module _ {E : Type 0} {N : ℕ} {g : Ghosts E} (t : Table E N g) where
   same_table rows same = subst (λ xs. (fit : t.len ≤ N) (ordered : rising g.shape 0 (take t.len xs) ≡ true) → made xs fit ordered ≡ t) (sym same) same_facts
 
 -- an error answers that an edit was not allowed and left the table as it was
-pub not_allowed : {E X Y : Type 0} {N : ℕ} {g : Ghosts E} (old new : Table E N g) (es : List E) (allowed : Bool) (r : Result X Y) → is_err r ≡ true → allowed ≡ false → new ≡ old → Becomes old new es allowed r
+not_allowed : {E X Y : Type 0} {N : ℕ} {g : Ghosts E} (old new : Table E N g) (es : List E) (allowed : Bool) (r : Result X Y) → is_err r ≡ true → allowed ≡ false → new ≡ old → Becomes old new es allowed r
 not_allowed old new es allowed (Ok x) err turned same = absurd (both_ways false refl err)
 not_allowed old new es allowed (Err y) err turned same = (turned, same)
+
+-- so it is where the edit left the rows as they were
+pub refused_table : {E X Y : Type 0} {N : ℕ} {g : Ghosts E} (t : Table E N g) (rows : List E) (fit : t.len ≤ N) (ordered : rising g.shape 0 (take t.len rows) ≡ true) (es : List E) (allowed : Bool) (r : Result X Y) → is_err r ≡ true → rows ≡ t.rows → allowed ≡ false → Becomes t (record { rows = rows; len = t.len; fit = fit; ordered = ordered }) es allowed r
+refused_table t rows fit ordered es allowed r err same turned = not_allowed t _ es allowed r err turned (same_table t rows same fit ordered)

@@ -1,6 +1,6 @@
 -- Tables of elements as lists, and what each edit makes of one.
-use Rattle.std.specs.Prelude.{ℕ, zero, suc, Bool, true, false, cond, ◌&&◌, ◌||◌, List, [], ◌∷◌, ◌++◌, map, is_some, Some, None, Option, nat_le, nat_lt}
-use Rattle.std.specs.List.{flat_map}
+use Rattle.std.specs.Prelude.{ℕ, zero, suc, Bool, true, cond, ◌&&◌, List, [], ◌∷◌, ◌++◌, map, is_some, Some, None, Option, nat_le, nat_lt}
+use Rattle.std.specs.List.{flat_map, list_any}
 use Rattle.ranges.specs.Shape.{Shape, end, holds, proper, front_of, back_of, one_of}
 
 -- proper elements in rising order from page n on, no two with a page in common
@@ -19,8 +19,7 @@ meets S a b = nat_lt (S.first a) (end S b) && nat_lt (S.first b) (end S a)
 
 -- an element of the table has a page in common with e
 abbrev pub taken : {E : Type 0} → Shape E → E → List E → Bool
-taken S e [] = false
-taken S e (x ∷ xs) = meets S e x || taken S e xs
+taken S e xs = list_any (meets S e) xs
 
 -- e at its place in a rising table
 abbrev pub inserted : {E : Type 0} → Shape E → E → List E → List E

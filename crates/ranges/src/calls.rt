@@ -58,13 +58,13 @@ impl<E: Element, const N: usize> Table<E, N> {
 
     // Whether an element has a page in common with `e`.
     pub fn meets(&self, e: &E) -> bool
-        requires { proper E.Element.shape e.now ≡ true }
         ensures { result ≡ taken E.Element.shape e.now (held self.now) }
     {
         is_taken(self.rows(), e)
     }
 
     // Puts an element at its place: refused if one of its pages is taken or the table is full.
+    #[tactic(auto, using(crate::proofs::Tables::refused_table))]
     pub fn insert(&mut self, e: E) -> Result<(), Refused>
         requires { proper E.Element.shape e ≡ true }
         ensures becomes { Becomes self.old self.new (inserted E.Element.shape e (held self.old)) (not (taken E.Element.shape e (held self.old) || overfull N (inserted E.Element.shape e (held self.old)))) result }
@@ -86,6 +86,7 @@ impl<E: Element, const N: usize> Table<E, N> {
     }
 
     // Takes the range's pages out: refused if what is left does not fit.
+    #[tactic(auto, using(crate::proofs::Tables::refused_table))]
     pub fn remove(&mut self, range: Range) -> Result<(), Refused>
         ensures becomes { Becomes self.old self.new (removed E.Element.shape range.first (range.first + range.pages) (held self.old)) (not (overfull N (removed E.Element.shape range.first (range.first + range.pages) (held self.old)))) result }
         ensures says { OnOk result (Removes E.Element.shape range.first (range.first + range.pages) (held self.old) (held self.new)) }
@@ -95,6 +96,7 @@ impl<E: Element, const N: usize> Table<E, N> {
     }
 
     // Changes what is said of the range's pages, after cuts at the range's ends: refused if the elements then do not fit.
+    #[tactic(auto, using(crate::proofs::Tables::refused_table))]
     pub fn change<C: Change<E>>(&mut self, range: Range, by: &C) -> Result<(), Refused>
         ensures becomes { Becomes self.old self.new (altered E.Element.shape (C.Change.alters by.now) range.first (range.first + range.pages) (held self.old)) (not (overfull N (altered E.Element.shape (C.Change.alters by.now) range.first (range.first + range.pages) (held self.old)))) result }
         ensures says { OnOk result (Alters E.Element.shape (C.Change.alters by.now) range.first (range.first + range.pages) (held self.old) (held self.new)) }

@@ -1,5 +1,6 @@
-// Edits of a lent slice: the first `len` rows are in use, and the slice's length is the most there can be. A slice has no
-// invariant, and the project's rule wants these functions over lent slices; so each asks that the rows rise. `Table` keeps it.
+// Edits of a lent slice: the first `len` rows are in use, and the slice's length is the most there can be. The project's rule wants
+// these over lent slices. A slice has no invariant, so where rows are cut it is asked that they rise; and a view of the slice with its
+// length would have to give the length back to whoever lent it. `Table` keeps both.
 ghost use Rattle.std.specs.Prelude.{◌≡◌, ℕ, ◌+◌, ◌-◌, ◌<◌, ◌≤◌, true, ◌||◌, List, ◌∷◌, ◌++◌, map, length, take, drop, IfSome, if◌then◌else◌};
 ghost use Rattle.ranges.specs.Shape.{Shape, Laws, end, proper};
 ghost use Rattle.ranges.specs.Tables.{rising, said, taken, inserted, removed, cut as cut_at, inside, altered};
@@ -58,6 +59,7 @@ fn squeeze<E: Element>(rows: &mut [E], span: Span) -> usize
     ensures table { take result rows.new ≡ removed E.Element.shape span.from span.to rows.old }
 {
     let mut count = 0;
+    // By index: the row that is read and the row that is written are two places of one slice, and no iterator lends both.
     for i in 0..rows.len() {
         let row = rows[i];
         if let Some(part) = trim(row, span) {
@@ -135,7 +137,6 @@ pub fn cut<E: Element>(rows: &mut [E], len: usize, page: u16) -> Option<usize>
 
 // Changes each row that lies in the span's pages.
 fn alter<E: Element, C: Change<E>>(rows: &mut [E], span: Span, by: &C)
-    requires { rising E.Element.shape 0 rows.old ≡ true }
     ensures { rows.new ≡ map (λ e. (if inside E.Element.shape span.from span.to e then C.Change.alters by.now e else e)) rows.old }
 {
     for row in rows.iter_mut() {

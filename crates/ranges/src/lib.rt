@@ -12,7 +12,7 @@ mod table;
 pub use calls::Refused;
 pub use edit::{change, cut, insert, remove};
 pub use element::{Change, Element, range_of};
-pub use range::Range;
+pub use range::{Range, fits};
 pub use scan::{covers, find, is_taken};
 pub use table::Table;
 

@@ -1,6 +1,8 @@
 // A run of pages within a task.
 ghost use Rattle.std.specs.Prelude.{◌≡◌, ℕ, ◌+◌, ◌<◌, ◌≤◌, cond, ◌&&◌, is_some, IfSome, nat_le, nat_lt};
 
+use crate::PAGES;
+
 // At least one page, and none past page 4,095.
 #[derive(Clone, Copy)]
 pub struct Range {
@@ -10,13 +12,20 @@ pub struct Range {
     ghost within: { first + pages ≤ 4096 },
 }
 
+// Whether there is a page, and none from page `limit` on.
+pub fn fits(first: u16, pages: u16, limit: u16) -> bool
+    ensures { result ≡ (nat_lt 0 pages && nat_le (first + pages) limit) }
+{
+    pages != 0 && pages <= limit && first <= limit - pages
+}
+
 impl Range {
     // None if there is no page or the last lies past page 4,095.
     pub fn new(first: u16, pages: u16) -> Option<Range>
         ensures exactly { is_some result ≡ (nat_lt 0 pages && nat_le (first + pages) 4096) }
         ensures numbers { IfSome result (λ x. (x.first ≡ first) × (x.pages ≡ pages)) }
     {
-        if pages == 0 || first > 4096 || pages > 4096 - first {
+        if !fits(first, pages, PAGES) {
             return None;
         }
         Some(Range { first, pages })

@@ -1,5 +1,4 @@
-// Tests and cuts of one element. Each asks that the element is proper: rows are plain structs, as the project's rule says, so a
-// row carries no such fact, and the tables that hold rows know it of theirs.
+// Tests and cuts of one element.
 ghost use Rattle.std.specs.Prelude.{◌≡◌, ℕ, ◌+◌, ◌<◌, ◌≤◌, true, if◌then◌else◌};
 ghost use Rattle.std.specs.Option.{option_to_list};
 ghost use Rattle.ranges.specs.Shape.{Shape, Laws, end, proper, holds};
@@ -8,29 +7,25 @@ ghost use Rattle.ranges.specs.Tables.{meets, trimmed, inside};
 use crate::element::{Change, Element};
 use crate::range::Span;
 
-// The page after the element's last.
-pub fn end_of<E: Element>(e: &E) -> u16
-    requires { proper E.Element.shape e.now ≡ true }
+// The page after the element's last, in a width that holds it for any row.
+pub fn end_of<E: Element>(e: &E) -> u32
     ensures { result ≡ end E.Element.shape e.now }
 {
-    e.first() + e.pages()
+    u32::from(e.first()) + u32::from(e.pages())
 }
 
 // Whether the page is the element's.
 pub fn has_page<E: Element>(e: &E, page: u16) -> bool
-    requires { proper E.Element.shape e.now ≡ true }
     ensures { result ≡ holds E.Element.shape page e.now }
 {
-    e.first() <= page && page < end_of(e)
+    e.first() <= page && u32::from(page) < end_of(e)
 }
 
 // Whether the two have a page in common.
 pub fn meet<E: Element>(a: &E, b: &E) -> bool
-    requires first { proper E.Element.shape a.now ≡ true }
-    requires second { proper E.Element.shape b.now ≡ true }
     ensures { result ≡ meets E.Element.shape a.now b.now }
 {
-    a.first() < end_of(b) && b.first() < end_of(a)
+    u32::from(a.first()) < end_of(b) && u32::from(b.first()) < end_of(a)
 }
 
 // What is left without the span's pages, of an element that does not lie around them.
@@ -41,11 +36,11 @@ pub fn trim<E: Element>(e: E, span: Span) -> Option<E>
 {
     let first = e.first();
     let end = end_of(&e);
-    if end <= span.from || span.to <= first {
+    if end <= u32::from(span.from) || span.to <= first {
         Some(e)
     } else if first < span.from {
         Some(e.front(span.from))
-    } else if span.to < end {
+    } else if u32::from(span.to) < end {
         Some(e.back(span.to))
     } else {
         None
@@ -54,10 +49,9 @@ pub fn trim<E: Element>(e: E, span: Span) -> Option<E>
 
 // The element, changed if it lies in the span's pages.
 pub fn changed<E: Element, C: Change<E>>(e: E, span: Span, by: &C) -> E
-    requires { proper E.Element.shape e ≡ true }
     ensures { result ≡ (if inside E.Element.shape span.from span.to e then C.Change.alters by.now e else e) }
 {
-    if span.from <= e.first() && end_of(&e) <= span.to {
+    if span.from <= e.first() && end_of(&e) <= u32::from(span.to) {
         by.apply(e)
     } else {
         e

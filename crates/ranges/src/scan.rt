@@ -1,4 +1,4 @@
-// Loops that look through a lent slice and change nothing. Each asks that its rows rise, since a slice has no invariant.
+// Looks through a lent slice, and changes nothing. Where the rows have to rise this is asked, since a slice has no invariant.
 ghost use Rattle.std.specs.Prelude.{nat_lt, position, ◌≡◌, ℕ, ◌+◌, ◌-◌, ◌<◌, ◌≤◌, true, false, List, ◌∷◌, ◌++◌, length, take, drop, MatchOption};
 ghost use Rattle.ranges.specs.Shape.{Shape, Laws, end, proper};
 ghost use Rattle.ranges.specs.Tables.{rising, said, taken, inserted, covered};
@@ -23,16 +23,9 @@ pub fn find<E: Element>(rows: &[E], page: u16) -> Option<E>
 
 // Whether an element of the table has a page in common with `e`.
 pub fn is_taken<E: Element>(rows: &[E], e: &E) -> bool
-    requires rising { rising E.Element.shape 0 rows.now ≡ true }
-    requires proper { proper E.Element.shape e.now ≡ true }
     ensures { result ≡ taken E.Element.shape e.now rows.now }
 {
-    for row in rows {
-        if meet(e, row) {
-            return true;
-        }
-    }
-    false
+    rows.iter().any(|row| meet(e, row))
 }
 
 // The first row that begins behind `e`.
@@ -52,15 +45,9 @@ pub fn place<E: Element>(rows: &[E], e: &E) -> usize
 
 // Which row has pages on both sides of the span.
 pub fn around<E: Element>(rows: &[E], span: Span) -> Option<usize>
-    requires { rising E.Element.shape 0 rows.now ≡ true }
     ensures { MatchOption result (Apart E.Element.shape span.from span.to rows.now) (Around E.Element.shape span.from span.to rows.now) }
 {
-    for (i, row) in rows.iter().enumerate() {
-        if row.first() < span.from && span.to < end_of(row) {
-            return Some(i);
-        }
-    }
-    None
+    rows.iter().position(|row| row.first() < span.from && u32::from(span.to) < end_of(row))
 }
 
 // The first page from `page` on of which the table says nothing.
@@ -71,7 +58,7 @@ fn reached<E: Element>(rows: &[E], page: u16) -> u16
     let mut page = page;
     for row in rows {
         if has_page(row, page) {
-            page = end_of(row);
+            page = end_of(row) as u16;
         }
     }
     page

@@ -5,8 +5,8 @@ ghost use Rattle.ranges.specs.Tables.{rising};
 use crate::element::Element;
 use std::alloc::AllocError;
 
-// At most N elements: the first `len` rows hold them, and the rows behind say nothing. An array with a length beside, and no
-// `Vec`: the engine's tables are of fixed size and on no heap.
+// At most N elements: the first `len` rows hold them, and the rows behind say nothing. An array with a length beside: the
+// engine's tables are of fixed size and on no heap, and are copied, which neither a `Vec` nor an `ArrayVec` is.
 pub struct Table<E: Element, const N: usize> {
     pub(crate) rows: [E; N],
     pub(crate) len: usize,

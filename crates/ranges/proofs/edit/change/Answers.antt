@@ -4,7 +4,7 @@ use Rattle.std.proofs.lemmas.List.{length-append, length-take-le}
 use Rattle.ranges.specs.Tables.{altered}
 use Rattle.ranges.proofs.Facts.{used}
 use Rattle.ranges.proofs.Edits.{count_is, fits_rows}
-use Rattle.ranges.proofs.Changes.{change_full, half_within, half_rises, half_room, all_within, all_rises, altered_is, alter_says, alter_rises}
+use Rattle.ranges.proofs.Changes.{change_full, half_within, half_rises, half_room, all_within, altered_is, alter_says, alter_rises}
 use Rattle.ranges.proofs.edit.change.Goals as goal
 
 pub returns-then-rows-len : goal.returns-then-rows-len
@@ -31,16 +31,6 @@ split-count-requires g c =
       rising = half_rises S L xs c.args.len c.requires.within c.requires.rising _ _ low _ _ c.extra.ensures.count c.extra-2.ensures.count ys _ c.if-rows-len.false long c.split-half.ensures.count c.split-half.ensures.table;
       room = half_room S L xs c.args.len c.requires.within c.requires.rising _ _ low _ _ c.extra.ensures.count c.extra-2.ensures.count ys _ c.if-rows-len.false long c.split-half.ensures.count c.split-half.ensures.table;
     }
-
-pub alter-requires : goal.alter-requires
-alter-requires g c =
-    let some = c.args.range.some in
-    let low : c.from-span.result.from < c.from-span.result.to = omega (arith, c.from-span.ensures.0, c.from-span.ensures.1) in
-    let ys = c.split-half.new.rows in
-    let zs = c.split-count.new.rows in
-    let long : length ys ≡ length c.args.rows.now = omega (arith, c.split-half.auto.rows) in
-    let long' : length zs ≡ length ys = omega (arith, c.split-count.auto.rows) in
-    all_rises g.E.Element.shape g.E.Element.laws c.args.rows.now c.args.len c.requires.within c.requires.rising _ _ low _ _ c.extra.ensures.count c.extra-2.ensures.count ys _ c.if-rows-len.false long c.split-half.ensures.count c.split-half.ensures.table zs _ long' c.split-count.ensures.count c.split-count.ensures.table
 
 pub returns : goal.returns
 returns g c =

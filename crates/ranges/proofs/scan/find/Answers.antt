@@ -3,9 +3,6 @@ use Rattle.ranges.proofs.Facts.{holds_facts}
 use Rattle.ranges.proofs.Scans.{proper_read}
 use Rattle.ranges.proofs.scan.find.Goals as goal
 
-pub has_page-requires : goal.has_page-requires
-has_page-requires g c = proper_read g.E.Element.shape _ _ _ c.loop-row-test.true c.row-item.is 0 c.requires
-
 pub one-requires : goal.one-requires
 one-requires g c =
     let S = g.E.Element.shape in

@@ -1,13 +1,14 @@
-use Rattle.std.proofs.Common.{sym, ◌∙◌}
+use Rattle.std.proofs.Common.{sym, ◌∙◌, arith}
+use Rattle.ranges.proofs.Facts.{proper_facts}
 use Rattle.ranges.proofs.Scans.{proper_read, reach_on, reach_same}
 use Rattle.ranges.proofs.scan.reached.Goals as goal
 use Rattle.ranges.proofs.scan.reached.Goals.{then-has_page, else-has_page}
 
-pub has_page-requires : goal.has_page-requires
-has_page-requires g c = proper_read g.E.Element.shape _ _ _ c.loop-row-test.true c.row-item.is 0 c.requires
-
-pub end_of-page-requires : goal.end_of-page-requires
-end_of-page-requires g c = proper_read g.E.Element.shape _ _ _ c.loop-row-test.true c.row-item.is 0 c.requires
+pub overflow_cast-page : goal.overflow_cast-page
+overflow_cast-page g c =
+    let S = g.E.Element.shape in
+    let ok = proper_facts S _ (proper_read S _ _ _ c.loop-row-test.true c.row-item.is 0 c.requires) in
+    omega (arith, ok.within, c.end_of-page.ensures)
 
 pub loop-row-preserved : goal.loop-row-preserved
 loop-row-preserved g c =
