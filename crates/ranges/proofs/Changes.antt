@@ -1,6 +1,6 @@
 -- A table cut at both ends of a range and changed between them.
 use Rattle.std.proofs.Common.{◌≡◌, ℕ, ◌+◌, ◌-◌, ◌<◌, ◌≤◌, Bool, true, false, cond, ◌⊎◌, List, [], ◌∷◌, ◌++◌, map, length, get_or, take, drop, set, Some, None, Option, sym, refl, ap, ◌∙◌, inl, inr, ⊎_elim, arith}
-use Rattle.std.proofs.lemmas.List.{length-append, length-map, length-take-le, get_or-append_right, get_or-drop, take_at}
+use Rattle.std.proofs.lemmas.List.{length-append, length-map, length-take-le, take_at}
 use Rattle.std.proofs.lemmas.Grind.{flat_map-append}
 use Rattle.std.proofs.lemmas.List.Edits.{map_over_more}
 use Rattle.std.proofs.lemmas.Bool.{and_from, and_left, and_right, lt-ltb, le-ltb, le-leb, lt-leb, cond-true, cond-false, cases_lt}
@@ -15,15 +15,6 @@ use Rattle.ranges.proofs.Removals.{removed_rises, cut_says, front_end, back_end,
 
 -- a loop that writes h x over each element x
 module _ {E : Type 0} (h : E → E) (xs ys : List E) (i : ℕ) (l : i < length xs) (is : ys ≡ map h (take i xs) ++ drop i xs) where
-  pub over_read : (x : E) → x ≡ get_or ys i x → x ≡ get_or xs i x
-  over_read x read =
-      let long : length (map h (take i xs)) ≡ i = length-map (take i xs) h ∙ length-take-le i xs (omega arith) in
-      read
-      ∙ ap (λ t. get_or t i x) is
-      ∙ get_or-append_right (map h (take i xs)) (drop i xs) i i x long (omega arith)
-      ∙ get_or-drop i xs (i - i) x
-      ∙ ap (λ n. get_or xs n x) (omega arith)
-
   pub over_more : (x y : E) → x ≡ get_or ys i x → y ≡ h x → set ys i y ≡ map h (take (i + 1) xs) ++ drop (i + 1) xs
   over_more x y read to = ap (set ys i) to ∙ map_over_more h xs ys i x l is read
 
