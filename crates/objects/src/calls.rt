@@ -75,7 +75,7 @@ impl Store {
 
     // The walk for a record and an index: where it ends, and the number of objects that it visits. None if the record
     // is not in use. The two stay apart, as in `put` and in `load` of `contents`: a map entry has the record, and with
-    // the page it gives the index, so a pair would be made for each call and be taken apart in it.
+    // the page it gives the index, so a pair would be made for each such call, only to be taken apart.
     pub fn walk(&self, sharing: u8, index: u16) -> Option<Walk>
         ensures used { is_some result ≡ in_use self.now.tables sharing }
         ensures end { IfSome result (λ w. walk_end self.now.tables sharing index ≡ Some w.end) }
