@@ -2,6 +2,7 @@
 use Rattle.std.proofs.Common.{◌≡◌, ℕ, suc, ◌+◌, ◌<◌, ◌≤◌, Bool, true, false, cond, eqb, ◌⊎◌, is_some, Some, None, Option, sym, refl, ap, ◌∙◌, subst, inl, inr, arith}
 use Rattle.std.proofs.lemmas.Bool.{cases_eq, cases_lt, cases_Bool, eqb-true, eqb-false, eq-eqb, ne_eqb}
 use Rattle.std.proofs.lemmas.Option.{same_Some}
+use Rattle.std.proofs.lemmas.Option.{none-some}
 use Rattle.chains.specs.declared.Origin.{Origin}
 use Rattle.chains.specs.declared.Backing.{Backing}
 use Rattle.chains.specs.declared.Backing.TheVariants.{Free, Root, Shadow}
@@ -12,7 +13,7 @@ use Rattle.chains.specs.Rows.{live, is_shadowing, is_naming, own, bit, count, we
 use Rattle.chains.specs.Walks.{Bare, Chain, root, on, Walks, at_frame, below, slot_of, dropped, lifted}
 use Rattle.chains.specs.Sound.{Formed, Settled, Sound, Nearly, Put, Keeps, Thins, Settles}
 use Rattle.chains.proofs.Sums.{sum_zero, term_le, two_terms, some_term}
-use Rattle.chains.proofs.Finds.{none_some, none_bare, bare_none}
+use Rattle.chains.proofs.Finds.{none_bare, bare_none}
 use Rattle.chains.proofs.Chains.{free_live, live_below, chain_live, chain_next, not_itself}
 use Rattle.chains.proofs.Weights.{bit_false, true_bit, bit_same, bit_other, names_put, shadows_put, shadows_true, names_true}
 use Rattle.chains.proofs.Transfers.{chain_goes, walk_goes, chain_collapses, walk_collapses}
@@ -27,7 +28,7 @@ module _ (N M F : ℕ) where
   -- what a name and a shadow weigh
   module _ (B : ℕ → Backing) (T : ℕ → Option ℕ) (objects : (o : ℕ) → N ≤ o → B o ≡ Free) (records : (r : ℕ) → M ≤ r → T r ≡ None) where
     pub used_below : (r o : ℕ) → T r ≡ Some o → r < M
-    used_below r o h = elim (cases_lt r M) [ inl l ↦ l | inr g ↦ absurd (none_some (T r) (records r g) h) ]
+    used_below r o h = elim (cases_lt r M) [ inl l ↦ l | inr g ↦ absurd (none-some o (sym (records r g) ∙ h)) ]
 
     pub named : (r o : ℕ) → T r ≡ Some o → 1 ≤ count M (λ k. is_naming o (T k))
     named r o h =
@@ -247,7 +248,7 @@ module _ (N M F : ℕ) where
   module _ (B : ℕ → Backing) (W W' : ℕ → Option Owner) (T : ℕ → Option ℕ) (s : ℕ) (put : Put W W' s None) where
     released_back : (t : ℕ) (w : Owner) → W' t ≡ Some w → W t ≡ Some w
     released_back t w h =
-        elim (cases_eq t s) [ inl e ↦ absurd (none_some (W' t) (ap W' e ∙ put.here) h) | inr d ↦ sym (put.elsewhere t d) ∙ h ]
+        elim (cases_eq t s) [ inl e ↦ absurd (none-some _ (sym (ap W' e ∙ put.here) ∙ h)) | inr d ↦ sym (put.elsewhere t d) ∙ h ]
 
     pub released : Sound N M F B W T → Sound N M F B W' T
     released S = record {
@@ -274,7 +275,7 @@ module _ (N M F : ℕ) where
   module _ (B : ℕ → Backing) (W : ℕ → Option Owner) (T T' : ℕ → Option ℕ) (o r : ℕ) (top : T r ≡ Some o) (put : Put T T' r None) where
     unnamed_back : (k a : ℕ) → T' k ≡ Some a → T k ≡ Some a
     unnamed_back k a h =
-        elim (cases_eq k r) [ inl e ↦ absurd (none_some (T' k) (ap T' e ∙ put.here) h) | inr d ↦ sym (put.elsewhere k d) ∙ h ]
+        elim (cases_eq k r) [ inl e ↦ absurd (none-some _ (sym (ap T' e ∙ put.here) ∙ h)) | inr d ↦ sym (put.elsewhere k d) ∙ h ]
 
     pub unnamed : Formed N M F B W T → Formed N M F B W T'
     unnamed F₀ = record {
@@ -300,11 +301,11 @@ module _ (N M F : ℕ) where
   dropped_other o x w h d = ap (dropped o) h ∙ ap (λ b. cond b None (Some w)) (ne_eqb w.object o d)
 
   dropped_back : (o : ℕ) (x : Option Owner) (w : Owner) → dropped o x ≡ Some w → (x ≡ Some w) × (w.object ≡ o → ⊥)
-  dropped_back o None w h = absurd (none_some None refl h)
+  dropped_back o None w h = absurd (none-some _ h)
   dropped_back o (Some v) w h = at (eqb v.object o) refl h
     where
       at : (b : Bool) → eqb v.object o ≡ b → cond b None (Some v) ≡ Some w → (Some v ≡ Some w) × (w.object ≡ o → ⊥)
-      at true e k = absurd (none_some None refl k)
+      at true e k = absurd (none-some _ k)
       at false e k = (k, λ q. eqb-false v.object o e (same_object k ∙ q))
 
   module _ (B B' : ℕ → Backing) (W W' : ℕ → Option Owner) (T : ℕ → Option ℕ) (o : ℕ) (inside : o < N) (zero_weight : weight N M B T o ≡ 0) (put : Put B B' o Free) (drops : (s : ℕ) → W' s ≡ dropped o (W s)) (F₀ : Formed N M F B W T) where
@@ -363,12 +364,12 @@ module _ (N M F : ℕ) where
       ∙ ap (λ y. cond (is_some y) None (Some (own q i))) d
 
   lifted_back : (W : ℕ → Option Owner) (o q : ℕ) (x : Option Owner) (w : Owner) → lifted F W o q x ≡ Some w → ((x ≡ Some w) × (w.object ≡ o → ⊥)) ⊎ ((x ≡ Some (own o w.index)) × (w.object ≡ q) × (slot_of F W q w.index ≡ None))
-  lifted_back W o q None w h = absurd (none_some None refl h)
+  lifted_back W o q None w h = absurd (none-some _ h)
   lifted_back W o q (Some v) w h = at (eqb v.object o) (slot_of F W q v.index) refl refl h
     where
       at : (b : Bool) (y : Option ℕ) → eqb v.object o ≡ b → slot_of F W q v.index ≡ y → cond b (cond (is_some y) None (Some (own q v.index))) (Some v) ≡ Some w → ((Some v ≡ Some w) × (w.object ≡ o → ⊥)) ⊎ ((Some v ≡ Some (own o w.index)) × (w.object ≡ q) × (slot_of F W q w.index ≡ None))
       at false y e f k = inl (k, λ p. eqb-false v.object o e (same_object k ∙ p))
-      at true (Some t) e f k = absurd (none_some None refl k)
+      at true (Some t) e f k = absurd (none-some _ k)
       at true None e f k =
           let i : v.index ≡ w.index = same_index k in
           inr (ap (λ y. Some (own y v.index)) (eqb-true v.object o e) ∙ ap (λ y. Some (own o y)) i, sym (same_object k), ap (slot_of F W q) (sym i) ∙ f)

@@ -1,13 +1,11 @@
 -- The lowest number that passes a test, and the frame of an owner.
 use Rattle.std.proofs.Common.{◌≡◌, ℕ, zero, suc, ◌<◌, ◌≤◌, Bool, true, false, cond, eqb, Some, None, Option, sym, refl, ap, ◌∙◌, inl, inr, arith}
 use Rattle.std.proofs.lemmas.Bool.{cases_eq, cases_lt, cases_Bool, eqb-true, eq-eqb, and_parts, and_from, both_ways}
+use Rattle.std.proofs.lemmas.Option.{none-some}
 use Rattle.chains.specs.declared.Owner.{Owner}
 use Rattle.chains.specs.Rows.{own, is_owned_by}
 use Rattle.chains.specs.Walks.{lowest, slot_of, Bare}
 use Rattle.chains.specs.Sound.{Apart}
-
-pub none_some : {A : Type 0} {a : A} (x : Option A) → x ≡ None → x ≡ Some a → ⊥
-none_some x p q = cc
 
 -- what the search finds
 pub lowest_none : (n : ℕ) (p : ℕ → Bool) → lowest n p ≡ None → (k : ℕ) → k < n → p k ≡ false
@@ -16,13 +14,13 @@ lowest_none zero p h k l = absurd (omega arith)
 lowest_none (suc n) p h k l = at (lowest n p) (p n) h refl refl (lowest_none n p)
   where
     at : (x : Option ℕ) (b : Bool) → ◌≡◌ {A = Option ℕ} (elim x [ Some k ↦ Some k | None ↦ cond b (Some n) None ]) None → lowest n p ≡ x → p n ≡ b → (lowest n p ≡ None → (k : ℕ) → k < n → p k ≡ false) → p k ≡ false
-    at (Some j) b e q r ih = absurd (none_some _ e refl)
-    at None true e q r ih = absurd (none_some _ e refl)
+    at (Some j) b e q r ih = absurd (none-some _ (sym e))
+    at None true e q r ih = absurd (none-some _ (sym e))
     at None false e q r ih = elim (cases_eq k n) [ inl d ↦ ap p d ∙ r | inr d ↦ ih q k (omega arith) ]
 
 pub lowest_some : (n : ℕ) (p : ℕ → Bool) (k : ℕ) → lowest n p ≡ Some k → (k < n) × (p k ≡ true) × ((j : ℕ) → j < k → p j ≡ false)
 unfolding lowest
-lowest_some zero p k h = absurd (none_some _ refl h)
+lowest_some zero p k h = absurd (none-some k h)
 lowest_some (suc n) p k h = at (lowest n p) (p n) h refl refl (lowest_some n p)
   where
     at : (x : Option ℕ) (b : Bool) → ◌≡◌ {A = Option ℕ} (elim x [ Some k ↦ Some k | None ↦ cond b (Some n) None ]) (Some k) → lowest n p ≡ x → p n ≡ b → ((k : ℕ) → lowest n p ≡ Some k → (k < n) × (p k ≡ true) × ((j : ℕ) → j < k → p j ≡ false)) → (k < suc n) × (p k ≡ true) × ((j : ℕ) → j < k → p j ≡ false)
@@ -30,7 +28,7 @@ lowest_some (suc n) p k h = at (lowest n p) (p n) h refl refl (lowest_some n p)
     at None true e q r ih =
         let d : n ≡ k = cc in
         (omega arith, ap p (sym d) ∙ r, λ j l. lowest_none n p q j (omega arith))
-    at None false e q r ih = absurd (none_some _ refl e)
+    at None false e q r ih = absurd (none-some _ e)
 
 pub lowest_is : (n : ℕ) (p : ℕ → Bool) (k : ℕ) → k < n → p k ≡ true → ((j : ℕ) → j < k → p j ≡ false) → lowest n p ≡ Some k
 lowest_is n p k l h b = at (lowest n p) refl
@@ -72,7 +70,7 @@ module _ (F : ℕ) (W : ℕ → Option Owner) where
 
   module _ (few : (s : ℕ) → F ≤ s → W s ≡ None) where
     pub held_below : (s : ℕ) (w : Owner) → W s ≡ Some w → s < F
-    held_below s w h = elim (cases_lt s F) [ inl l ↦ l | inr g ↦ absurd (none_some (W s) (few s g) h) ]
+    held_below s w h = elim (cases_lt s F) [ inl l ↦ l | inr g ↦ absurd (none-some w (sym (few s g) ∙ h)) ]
 
     pub none_bare : (o i : ℕ) → slot_of F W o i ≡ None → Bare W o i
     none_bare o i h s e = both_ways (is_owned_by o i (W s)) (lowest_none F _ h s (held_below s (own o i) e)) (owned_is o i (W s) e)

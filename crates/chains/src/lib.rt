@@ -4,14 +4,16 @@
 ghost use Rattle.std.specs.Prelude.{◌≡◌};
 ghost use Rattle.chains.specs.declared.Backing.TheVariants.{Free};
 
-// What the pages of a root object are to begin with: zeros, or the pages of a pager's object from page `first` on.
+// What the pages of a root object are to begin with: zeros, or the pages of a pager's object from page `first` on. Zeros are
+// a source of their own here, and not the want of one, so this is no `Option`.
 #[derive(Clone, Copy, Debug, PartialEq, Eq)]
 pub enum Origin {
     Zeros,
     Page { object: u16, first: u16 },
 }
 
-// A row of the object table. A shadow names the object below by its row's number: the table is an array, on no heap.
+// A row of the object table. A shadow names the object below by its row's number: the table is an array, on no heap. `Free`
+// is no `None`: a row is one type with methods of its own, lent and altered through `&mut self`, and std's `Option` takes none.
 #[derive(Clone, Copy, Debug, PartialEq, Eq)]
 pub enum Backing {
     Free,

@@ -1,6 +1,7 @@
 -- What each change of the tables does to the walks and the frames.
 use Rattle.std.proofs.Common.{◌≡◌, ℕ, suc, ◌<◌, ◌≤◌, true, false, not, eqb, length, get_or, is_some, Some, None, Option, sym, refl, ap, ◌∙◌, subst, inl, inr, arith}
 use Rattle.std.proofs.lemmas.Bool.{cases_eq, both_ways, not-true, not-false, eqb-true}
+use Rattle.std.proofs.lemmas.Option.{none-some}
 use Rattle.chains.specs.declared.Origin.{Origin}
 use Rattle.chains.specs.declared.Backing.{Backing}
 use Rattle.chains.specs.declared.Backing.TheVariants.{Free, Root, Shadow}
@@ -10,7 +11,7 @@ use Rattle.chains.specs.Rows.{live, own, source, count}
 use Rattle.chains.specs.Walks.{Bare, at_root, lowest, slot_of}
 use Rattle.chains.specs.Sound.{Sound, Put}
 use Rattle.chains.proofs.Sums.{count_le, count_but, sum_full}
-use Rattle.chains.proofs.Finds.{lowest_some, lowest_none, none_some, slot_is, bare_none}
+use Rattle.chains.proofs.Finds.{lowest_some, lowest_none, slot_is, bare_none}
 use Rattle.chains.proofs.Weights.{bit_true}
 use Rattle.chains.proofs.Counting.{objects_few, objects_fewer}
 use Rattle.chains.proofs.Changes.{opened, grown_walk, fresh_bare, copied, shaded, shaded_walk, shaded_alone, placed, placed_here, placed_walk, released, released_walk, unnamed, used_below, alone_name, alone_shadow}
@@ -113,7 +114,7 @@ pub frame_held : (t : Tables) → SoundTables t → (k i s : ℕ) → walk_end t
 frame_held t S k i s h = held_index (owner_of t s) i (frame_fixes t S k i s h)
   where
     held_index : (y : Option Owner) (i : ℕ) → index_of y ≡ Some i → is_some y ≡ true
-    held_index None i e = absurd (none_some None refl e)
+    held_index None i e = absurd (none-some _ e)
     held_index (Some w) i e = refl
 
 -- a record is closed: the tables without it, and then those in which all is settled

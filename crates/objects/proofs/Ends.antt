@@ -3,7 +3,7 @@ use Rattle.std.proofs.Common.{◌≡◌, ℕ, suc, ◌+◌, ◌-◌, ◌≤◌, 
 use Rattle.std.proofs.lemmas.Bool.{both_ways}
 use Rattle.std.specs.declared.ops.ControlFlow.{ControlFlow}
 use Rattle.std.specs.declared.ops.ControlFlow.TheVariants.{Continue, Break}
-use Rattle.std.proofs.lemmas.Option.{same_Some}
+use Rattle.std.proofs.lemmas.Option.{none-some, same_Some}
 use Rattle.chains.specs.declared.Origin.{Origin}
 use Rattle.chains.specs.declared.Origin.TheVariants.{Zeros, Page}
 use Rattle.chains.specs.declared.Backing.{Backing}
@@ -14,7 +14,7 @@ use Rattle.chains.specs.declared.End.TheVariants.{Frame}
 use Rattle.chains.specs.Rows.{live, source}
 use Rattle.chains.specs.Walks.{Bare, Chain, Walks, at_frame, at_root, below, slot_of, end_within, length_within}
 use Rattle.chains.proofs.Sums.{count_le}
-use Rattle.chains.proofs.Finds.{slot_some, none_bare, none_some}
+use Rattle.chains.proofs.Finds.{slot_some, none_bare}
 use Rattle.chains.proofs.Chains.{walk_total, walk_end_is, walk_length_is, walk_le, chain_live, chain_next}
 use Rattle.chains.proofs.Counting.{chain_short}
 use Rattle.objects.specs.declared.tables.Tables.{Tables}
@@ -92,7 +92,7 @@ module _ (t : Tables) (S : SoundTables t) where
   frame_fixes r i s h = at (in_use t r) refl
     where
       at : (b : Bool) → in_use t r ≡ b → index_of (owner_of t s) ≡ Some i
-      at false e = absurd (none_some _ (end_none r i e) h)
+      at false e = absurd (none-some _ (sym (end_none r i e) ∙ h))
       at true e = let x = used_top t r e in let w = end_walk r x.0 x.1 i (Frame s) h in walk_frame w.1 s refl
 
 -- a record's walks end where another's did, if the walks from its top go on there
@@ -110,7 +110,7 @@ module _ (t : Tables) (S : SoundTables t) (o i : ℕ) where
     where
       at : (x : Option ℕ) (b : Backing) → slot_of 128 (owner_of t) o i ≡ x → backing t o ≡ b → Some (Break e) ≡ step_on x b i → WalksIn t i o e 1
       at (Some s) b p q k = let z : Frame s ≡ e = cc in subst (λ y. WalksIn t i o y 1) z (at_frame (slot_some 128 (owner_of t) o i s p))
-      at None Free p q k = absurd (none_some None refl (sym k))
+      at None Free p q k = absurd (none-some _ (sym k))
       at None (Root g) p q k = let z : source g i ≡ e = cc in subst (λ y. WalksIn t i o y 1) z (at_root (none_bare 128 (owner_of t) S.formed.frames o i p) q)
       at None (Shadow u) p q k = cc
 
@@ -119,7 +119,7 @@ module _ (t : Tables) (S : SoundTables t) (o i : ℕ) where
     where
       at : (x : Option ℕ) (b : Backing) → slot_of 128 (owner_of t) o i ≡ x → backing t o ≡ b → Some (Continue p) ≡ step_on x b i → Bare (owner_of t) o i × (backing t o ≡ Shadow p)
       at (Some s) b u q k = cc
-      at None Free u q k = absurd (none_some None refl (sym k))
+      at None Free u q k = absurd (none-some _ (sym k))
       at None (Root g) u q k = cc
       at None (Shadow v) u q k = let z : Shadow v ≡ Shadow p = cc in (none_bare 128 (owner_of t) S.formed.frames o i u, q ∙ z)
 

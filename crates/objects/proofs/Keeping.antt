@@ -1,6 +1,7 @@
 -- Sound tables, and what a store's fields say of its tables.
 use Rattle.std.proofs.Common.{◌≡◌, ℕ, ◌+◌, ◌<◌, true, not, replicate, is_some, Some, None, Option, sym, refl, ap, ◌∙◌, inl, inr, arith}
 use Rattle.std.proofs.lemmas.Bool.{both_ways, not-false, cases_Bool, cases_lt}
+use Rattle.std.proofs.lemmas.Option.{none-some}
 use Rattle.chains.specs.declared.Backing.TheVariants.{Free}
 use Rattle.chains.specs.declared.Owner.{Owner}
 use Rattle.chains.specs.declared.End.{End}
@@ -8,7 +9,7 @@ use Rattle.chains.specs.declared.End.TheVariants.{Frame}
 use Rattle.chains.specs.Rows.{live, bit}
 use Rattle.chains.specs.Walks.{slot_of}
 use Rattle.chains.proofs.Sums.{count_le, sum_change, sum_full}
-use Rattle.chains.proofs.Finds.{none_some, lowest_none, slot_is}
+use Rattle.chains.proofs.Finds.{lowest_none, slot_is}
 use Rattle.chains.proofs.Weights.{bit_true}
 use Rattle.chains.proofs.Chains.{chain_ends, ends_chain, free_live}
 use Rattle.objects.specs.declared.store.Store.{Store}
@@ -73,10 +74,10 @@ empty_sound = record {
     objects = λ o l. repeated 511 Free o;
     records = λ r l. repeated 256 None r;
     frames = λ s l. repeated 128 None s;
-    tops = λ r o h. absurd (none_some (top_of empty_tables r) (repeated 256 None r) h);
+    tops = λ r o h. absurd (none-some _ (sym (repeated 256 None r) ∙ h));
     chained = λ o l. absurd (free_live (backing empty_tables o) (repeated 511 Free o) l);
-    owners = λ s w h. absurd (none_some (owner_of empty_tables s) (repeated 128 None s) h);
-    apart = λ s k w h g. absurd (none_some (owner_of empty_tables s) (repeated 128 None s) h);
+    owners = λ s w h. absurd (none-some _ (sym (repeated 128 None s) ∙ h));
+    apart = λ s k w h g. absurd (none-some _ (sym (repeated 128 None s) ∙ h));
   };
   settled = λ o l. absurd (free_live (backing empty_tables o) (repeated 511 Free o) l);
 }
@@ -100,7 +101,7 @@ walk_there t S r i u =
 -- and only such a record has one
 pub walk_used : (t : Tables) → SoundTables t → (r i : ℕ) (e : End) → walk_end t r i ≡ Some e → in_use t r ≡ true
 walk_used t S r i e h =
-    elim (cases_Bool (in_use t r)) [ inl u ↦ u | inr f ↦ absurd (none_some (walk_end t r i) (end_none t S r i f) h) ]
+    elim (cases_Bool (in_use t r)) [ inl u ↦ u | inr f ↦ absurd (none-some _ (sym (end_none t S r i f) ∙ h)) ]
 
 -- a walk ends at one of the frames, and that is held
 pub frame_below : (t : Tables) → SoundTables t → (r i s : ℕ) → walk_end t r i ≡ Some (Frame s) → s < 128

@@ -1,19 +1,12 @@
 -- Our counts and lowest numbers in std's words, over the rows of a table.
-use Rattle.std.proofs.Common.{◌≡◌, ℕ, zero, suc, ◌+◌, ◌<◌, ◌≤◌, min, Bool, true, false, not, cond, eqb, ltb, List, length, get_or, take, count_by, position, Some, None, Option, Bor, sym, refl, ap, ◌∙◌, inl, inr, arith}
-use denote.Param.Members.{Mut}
-use Rattle.std.specs.Fn.{Called}
-use Rattle.std.specs.Iterator.{FindsPosition}
+use Rattle.std.proofs.Common.{◌≡◌, ℕ, zero, suc, ◌+◌, ◌<◌, ◌≤◌, Bool, true, false, not, cond, eqb, ltb, List, length, get_or, take, count_by, position, is_some, Some, None, Option, sym, refl, ap, ◌∙◌, inl, inr, arith}
 use Rattle.std.specs.List.{position_or_len}
 use Rattle.std.specs.Option.{option_eq}
 use Rattle.std.proofs.lemmas.Bool.{cases_Bool, ltb-false}
-use Rattle.std.specs.declared.slice.Iter.{Iter}
-use Rattle.std.specs.Slice.Iter.{iter_rest}
-use Rattle.std.proofs.iter.Yields.{fronts}
-use Rattle.std.proofs.lemmas.Iterator.{YieldsList-from_slice}
-use Rattle.std.proofs.lemmas.Iterator.Search.{position_from_yields_List}
 use Rattle.std.proofs.lemmas.List.{take_all, length-take, get_or-take}
 use Rattle.std.proofs.lemmas.List.Sums.{count_by_more_yes, count_by_more_no, fails_before_first}
 use Rattle.std.proofs.lemmas.List.Quantifiers.{position-Some}
+use Rattle.std.proofs.lemmas.Option.{none-some}
 use Rattle.chains.specs.declared.Backing.{Backing}
 use Rattle.chains.specs.declared.Backing.TheVariants.{Free, Root, Shadow}
 use Rattle.chains.specs.contracts.BackingPartialEq.TheImpl as row_eq
@@ -21,14 +14,14 @@ use Rattle.chains.specs.declared.Owner.{Owner}
 use Rattle.chains.specs.contracts.OwnerPartialEq.TheImpl as owner_eq
 use Rattle.chains.specs.Rows.{live, is_shadowing, is_naming, is_owned_by, sum_to, bit, count}
 use Rattle.chains.specs.Walks.{lowest}
-use Rattle.chains.proofs.Finds.{none_some, lowest_is, lowest_not}
+use Rattle.chains.proofs.Finds.{lowest_is, lowest_not}
 
 -- the first row that passes
 first_lowest : {A : Type 0} (d : A) (p : A → Bool) (q : ℕ → Bool) (xs : List A) → ((k : ℕ) → k < length xs → p (get_or xs k d) ≡ q k) → position p xs ≡ lowest (length xs) q
 first_lowest d p q xs same = at (position p xs) refl
   where
     past : (b : Bool) → ltb (position_or_len p xs) (length xs) ≡ b → ◌≡◌ {A = Option ℕ} (cond b (Some (position_or_len p xs)) None) None → length xs ≤ position_or_len p xs
-    past true e h = absurd (none_some _ h refl)
+    past true e h = absurd (none-some _ (sym h))
     past false e h = ltb-false _ _ e
 
     at : (x : Option ℕ) → position p xs ≡ x → position p xs ≡ lowest (length xs) q
@@ -56,19 +49,15 @@ module _ {A : Type 0} (d : A) (p q : A → Bool) (same : (x : A) → p x ≡ q x
   count_is = ap (count_by p) (sym (take_all n xs (omega arith))) ∙ counted n (omega arith)
 
   -- the lowest row that passes
-  position_is : position p xs ≡ lowest n (λ k. q (get_or xs k d))
-  position_is = first_lowest d p (λ k. q (get_or xs k d)) xs (λ k m. same (get_or xs k d)) ∙ ap (λ i. lowest i (λ k. q (get_or xs k d))) long
+  pub found : (r : Option ℕ) → r ≡ position p xs → r ≡ lowest n (λ k. q (get_or xs k d))
+  found r h = h ∙ first_lowest d p (λ k. q (get_or xs k d)) xs (λ k m. same (get_or xs k d)) ∙ ap (λ i. lowest i (λ k. q (get_or xs k d))) long
 
   -- among the first m
-  pub position_within : (m : ℕ) → position p (take m xs) ≡ lowest (min m n) (λ k. q (get_or xs k d))
-  position_within m =
-      first_lowest d p (λ k. q (get_or xs k d)) (take m xs) (λ k l. ap p (get_or-take m xs k d (omega (arith, length-take m xs))) ∙ same (get_or xs k d))
-      ∙ ap (λ i. lowest i (λ k. q (get_or xs k d))) (length-take m xs ∙ ap (min m) long)
-
--- what `position` answers on a table
-pub found : {A F : Type 0} {g : Mut F (Bor A × Unit {0}) Bool} {s u : Iter A} {f : F} (r : Option ℕ) (d : A) (p q : A → Bool) → ((x : A) → p x ≡ q x) → (xs : List A) (n : ℕ) → length xs ≡ n → FindsPosition fronts g s f r u → iter_rest s ≡ xs → ((x : Bor A) (b : Bool) (t : F) → Called g f (x, tt) b t → (t ≡ f) × (b ≡ p x.now)) → r ≡ lowest n (λ k. q (get_or xs k d))
-found r d p q same xs n long ran rest call =
-    position_from_yields_List p _ _ r ran (YieldsList-from_slice xs rest) call ∙ position_is d p q same xs n long
+  pub found_within : (m : ℕ) → m ≤ n → (r : Option ℕ) → r ≡ position p (take m xs) → r ≡ lowest m (λ k. q (get_or xs k d))
+  found_within m few r h =
+      let e : length (take m xs) ≡ m = omega (arith, length-take m xs, long) in
+      h ∙ first_lowest d p (λ k. q (get_or xs k d)) (take m xs) (λ k l. ap p (get_or-take m xs k d (omega (arith, e))) ∙ same (get_or xs k d))
+      ∙ ap (λ i. lowest i (λ k. q (get_or xs k d))) e
 
 -- what `==` says of rows, tops and owners
 abbrev pub same_row : Backing → Backing → Bool
@@ -86,6 +75,10 @@ pub is_shadow : (o : ℕ) (b : Backing) → same_row b (Shadow o) ≡ is_shadowi
 is_shadow o Free = refl
 is_shadow o (Root g) = refl
 is_shadow o (Shadow p) = refl
+
+pub is_unused : {A : Type 0} (same : A → A → Bool) (x : Option A) → option_eq same x None ≡ not (is_some x)
+is_unused same None = refl
+is_unused same (Some a) = refl
 
 pub is_top : (o : ℕ) (x : Option ℕ) → option_eq eqb x (Some o) ≡ is_naming o x
 is_top o None = refl

@@ -6,7 +6,7 @@ ghost use Rattle.chains.specs.Walks.{lowest, slot_of};
 ghost use Rattle.objects.specs.View.{backing, owner_of, in_use, is_held, records_used, frames_held, walk_end, walk_length};
 ghost use Rattle.objects.specs.Says.{unused_record, UsesMore, UsesLess, UsesSame, Starts, Copies, KeepsWalks, KeepsOthers, KeepsApart, KeepsWithout, KeepsOwners, FreesOnly, HoldsReached, index_of, placeable, TakesOwn, TakesShared};
 
-use crate::scan::{frame_of, free, rows_in_use, unused};
+use crate::scan::{first_of, frame_of, free, rows_in_use, unused};
 use crate::store::Store;
 use crate::tables::Tables;
 use chains::{Backing, Origin, Owner, Walk};
@@ -53,12 +53,8 @@ impl Store {
     pub fn free_slot(&self, limit: u8) -> Option<u8>
         ensures { result ≡ lowest (min limit 128) (λ s. not (is_held self.now.tables s)) }
     {
-        self.tables
-            .frames
-            .iter()
-            .take(limit as usize)
-            .position(|owner| owner.is_none())
-            .map(|slot| slot as u8)
+        let below = limit.min(128) as usize;
+        first_of(&self.tables.frames[..below], &None).map(|slot| slot as u8)
     }
 
     // The owner of a held frame.
@@ -78,7 +74,8 @@ impl Store {
     }
 
     // The walk for a record and an index: where it ends, and the number of objects that it visits. None if the record
-    // is not in use. The two stay apart: a caller has them apart, and would make a pair for this call or `put` alone.
+    // is not in use. The two stay apart, as in `put` and in `load` of `contents`: a map entry has the record, and with
+    // the page it gives the index, so a pair would be made for each such call, only to be taken apart.
     pub fn walk(&self, sharing: u8, index: u16) -> Option<Walk>
         ensures used { is_some result ≡ in_use self.now.tables sharing }
         ensures end { IfSome result (λ w. walk_end self.now.tables sharing index ≡ Some w.end) }

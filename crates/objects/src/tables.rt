@@ -2,6 +2,7 @@
 ghost use Rattle.std.specs.Prelude.{◌≡◌};
 ghost use Rattle.objects.specs.View.{weight_of};
 
+use crate::scan::count_of;
 use chains::{Backing, Owner};
 
 // The top of each record in use, the row of each object, the owner of each held frame. Arrays of fixed size, and numbers
@@ -18,16 +19,8 @@ impl Tables {
     pub(crate) fn weight(&self, object: u16) -> usize
         ensures { result ≡ weight_of self.now object }
     {
-        let names = self
-            .records
-            .iter()
-            .filter(|top| **top == Some(object))
-            .count();
-        let shadows = self
-            .objects
-            .iter()
-            .filter(|row| **row == Backing::Shadow(object))
-            .count();
+        let names = count_of(&self.records, &Some(object));
+        let shadows = count_of(&self.objects, &Backing::Shadow(object));
         2 * names + shadows
     }
 }

@@ -7,13 +7,10 @@ pub returns-in_err-fresh-clause-full : goal.returns-in_err-fresh-clause-full
 returns-in_err-fresh-clause-full c = λ e u. all_used c.args.self.now.tables c.in_err-fresh.ensures
 
 pub invariant_of-self : goal.invariant_of-self
-invariant_of-self c =
-    sound_fields _ (copy_sound c.args.self.now.tables (store_sound c.args.self.now) c.args.sharing c.in_ok-object.object c.in_ok-fresh.fresh (search rules) c.in_ok-object.was c.in_ok-fresh.ensures)
+invariant_of-self c = sound_fields _ (copy_sound _ (store_sound c.args.self.now) _ _ _ (search rules) c.in_ok-object.was c.in_ok-fresh.ensures)
 
 pub returns-clause-copies : goal.returns-clause-copies
-returns-clause-copies c =
-    copy_copies c.args.self.now.tables (store_sound c.args.self.now) c.args.sharing c.in_ok-object.object c.in_ok-fresh.fresh (search rules) c.in_ok-object.was c.in_ok-fresh.ensures
+returns-clause-copies c = let s = store_sound c.args.self.now in search (rules, copy_copies)
 
 pub returns-clause-keeps : goal.returns-clause-keeps
-returns-clause-keeps c =
-    copy_keeps c.args.self.now.tables (store_sound c.args.self.now) c.args.sharing c.in_ok-object.object c.in_ok-fresh.fresh (search rules) c.in_ok-object.was c.in_ok-fresh.ensures
+returns-clause-keeps c = let s = store_sound c.args.self.now in search (rules, copy_keeps)

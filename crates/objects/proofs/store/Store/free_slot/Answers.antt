@@ -1,13 +1,7 @@
-use Rattle.std.proofs.Common.{◌≡◌, not, is_some, None, refl, rules, tests, ◌∙◌}
-use Rattle.std.proofs.lemmas.Iterator.{YieldsList-from_slice, YieldsList-from_take}
-use Rattle.std.proofs.lemmas.Iterator.Search.{position_from_yields_List}
-use Rattle.objects.proofs.Scans.{position_within}
+use Rattle.std.proofs.Common.{min, None, rules, arith}
+use Rattle.chains.specs.contracts.OwnerPartialEq.TheImpl as owner_eq
+use Rattle.objects.proofs.Scans.{found_within, is_unused}
 use Rattle.objects.proofs.store.Store.free_slot.Goals as goal
 
 pub returns : goal.returns
-returns c =
-    let k : c.map.result ≡ c.position.result = search rules in
-    let fs = c.args.self.now.tables.frames in
-    k
-    ∙ position_from_yields_List (λ x. not (is_some x)) _ _ c.position.result c.position.ensures.ran (YieldsList-from_take c.args.limit (YieldsList-from_slice fs cc) cc) (λ x b q k. search (rules, tests))
-    ∙ position_within None (λ x. not (is_some x)) (λ x. not (is_some x)) (λ x. refl) fs 128 (search rules) c.args.limit
+returns c = found_within None _ _ (is_unused (owner_eq.ghosts).eq) c.args.self.now.tables.frames 128 (search rules) (min c.args.limit 128) (omega arith) c.map.result (search rules)

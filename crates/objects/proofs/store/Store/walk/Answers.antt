@@ -5,11 +5,11 @@ use Rattle.objects.proofs.store.Store.walk.Goals as goal
 
 pub returns-in-Break : goal.returns-in-Break
 returns-in-Break c =
-    let x = comes_says c.args.self.now.tables (store_sound c.args.self.now) c.args.index c.in_ok-object.object c.args.sharing c.loop-length.object c.loop-length.length c.in-Break.end c.in_ok-end.field-0 c.in_ok-object.was c.loop-length.invariant c.in_ok-end.ensures c.in-Break.is in
+    let x = comes_says _ (store_sound c.args.self.now) _ _ _ _ _ _ _ c.in_ok-object.was c.loop-length.invariant c.in_ok-end.ensures c.in-Break.is in
     record { used = x.0; end = x.1; length = x.2; short = x.3 }
 
 pub loop-length-preserved : goal.loop-length-preserved
-loop-length-preserved c = comes_more c.args.self.now.tables (store_sound c.args.self.now) c.args.index c.in_ok-object.object c.loop-length.object c.loop-length.length c.in-Continue.lower c.loop-length.invariant (ap Some (sym c.in-Continue.is) ∙ c.in_ok-end.ensures)
+loop-length-preserved c = comes_more _ (store_sound c.args.self.now) _ _ _ _ _ c.loop-length.invariant (ap Some (sym c.in-Continue.is) ∙ c.in_ok-end.ensures)
 
 pub returns : goal.returns
-returns c = absurd (comes_over c.args.self.now.tables (store_sound c.args.self.now) c.args.index c.in_ok-object.object c.args.sharing c.loop-length.object c.loop-length.length c.in_ok-object.was c.loop-length-test.false c.loop-length.invariant)
+returns c = absurd (comes_over _ (store_sound c.args.self.now) _ _ _ _ _ c.in_ok-object.was c.loop-length-test.false c.loop-length.invariant)
