@@ -55,7 +55,7 @@ pub fn load<P: Pager>(
             pager,
             Wanted {
                 object,
-                page: page.min(65535) as u16,
+                page: u16::try_from(page).unwrap_or(u16::MAX),
             },
         ),
     }

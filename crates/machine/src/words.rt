@@ -3,16 +3,18 @@ ghost use Rattle.std.specs.Prelude.{◌≡◌};
 ghost use Rattle.machine.specs.Words.{protection_at, inheritance_at, numbered, rank};
 
 // What a task may do with the pages of an entry.
-#[derive(Clone, Copy, PartialEq, Eq, Debug)]
+#[derive(Clone, Copy, Default, PartialEq, Eq, Debug)]
 pub enum Protection {
+    #[default]
     None,
     Read,
     ReadWrite,
 }
 
 // What a fork gives the child of an entry.
-#[derive(Clone, Copy, PartialEq, Eq, Debug)]
+#[derive(Clone, Copy, Default, PartialEq, Eq, Debug)]
 pub enum Inheritance {
+    #[default]
     None,
     Share,
     Copy,
@@ -69,7 +71,7 @@ impl TryFrom<u8> for Inheritance {
 
 // A map entry: a row of pages, and for each of them the cell that it names. The first page names the cell
 // `index` of the sharing record, and the index rises by one a page.
-#[derive(Clone, Copy, PartialEq, Eq, Debug)]
+#[derive(Clone, Copy, Default, PartialEq, Eq, Debug)]
 pub struct Entry {
     pub first: u16,
     pub pages: u16,

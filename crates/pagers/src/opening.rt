@@ -10,11 +10,20 @@ ghost use Rattle.pagers.specs.Layouts.{over};
 use crate::extent::Extent;
 use crate::layout::Layout;
 use crate::reading;
-use ranges::{Table, fits};
+use ranges::{Refused, Table, fits};
 
 // The file is no image.
 #[derive(Clone, Copy, PartialEq, Eq, Debug)]
 pub struct BadImage;
+
+// An extent that its table refuses, handed on.
+impl From<Refused> for BadImage {
+    ghost from_gives = { λ _ b. b ≡ record {} };
+
+    fn from(_refused: Refused) -> BadImage {
+        BadImage
+    }
+}
 
 // Whether the extent has a page and does not pass the page count.
 fn is_within(e: &Extent, pages: u16) -> bool
@@ -37,7 +46,8 @@ impl Layout {
         if !is_within(&e, self.pages) {
             return Err(BadImage);
         }
-        self.extents.insert(e).map_err(|_refused| BadImage)
+        self.extents.insert(e)?;
+        Ok(())
     }
 
     // Reads the table of an image file.

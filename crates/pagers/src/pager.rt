@@ -4,8 +4,8 @@ ghost use Rattle.pagers.specs.Meaning.{Meaning, Bounded, fetched, Fetches};
 
 use crate::PagerFault;
 
-// A source of pages, which asking does not change. Object and page are two numbers and no pair, since a count
-// takes the object alone, and a pair of pagers renumbers it alone.
+// A source of pages, which asking does not change. Object and page are two numbers, since a count takes the object
+// alone, and a pair of pagers renumbers it alone; a caller that keeps both beside a fault has `contents::Wanted`.
 pub trait Pager {
     // How many pages each object has, and what each holds.
     ghost meaning: { Self → Meaning };

@@ -1,15 +1,11 @@
 -- The records of a script, one after another.
 use Rattle.std.proofs.Common.{◌≡◌, ℕ, zero, suc, ◌+◌, ◌-◌, ◌<◌, ◌≤◌, false, cond, ltb, List, [], ◌∷◌, length, get_or, take, drop, refl, ap, ◌∙◌, arith, length-drop, Result}
 use Rattle.std.specs.List.{IsSplitAt}
-use Rattle.std.proofs.lemmas.List.{take_all}
+use Rattle.std.proofs.lemmas.List.{take_rest}
 use Rattle.std.proofs.lemmas.Bool.{lt-ltb, le-ltb}
 use Rattle.scripts.specs.Records.{cut_short, two, meant, reading, items, item_of, Reads}
 use Rattle.scripts.specs.declared.reader.Command.{Command}
 use Rattle.scripts.specs.declared.reader.BadRecord.{BadRecord}
-
--- all that is left after n elements
-pub take_rest : (n : ℕ) (r : List ℕ) → take (length r - n) (drop n r) ≡ drop n r
-take_rest n r = take_all (length r - n) (drop n r) (simp length-drop (omega arith))
 
 -- steps enough are steps enough
 fuel : (m n : ℕ) (s : List ℕ) → length s ≤ m → length s ≤ n → reading m s ≡ reading n s
@@ -62,6 +58,6 @@ pub reads_more : (s : List ℕ) (n : ℕ) (body after : List ℕ) (r : Result Co
 reads_more [] n body after r h e k t = absurd (omega arith)
 reads_more (a ∷ []) n body after r h e k t = absurd (omega arith)
 reads_more (a ∷ b ∷ s) n body after r h e k t =
-    let q : IsSplitAt s n body after = rw (take_rest 2 (a ∷ b ∷ s)) at k in
+    let q : IsSplitAt s n body after = rw (take_rest (a ∷ b ∷ s) 2) at k in
     let more : items (a ∷ b ∷ s) ≡ meant (take n s) ∷ items (drop n s) = rw e (items_more a b s (omega arith)) in
     record { begins = more ∙ rw (← q.1, ← q.2, t) refl; shorter = omega arith }

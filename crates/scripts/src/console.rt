@@ -13,7 +13,8 @@ use crate::reader::{BadRecord, Command, Record, Records};
 use engine::{Engine, Refusal, Usage};
 use std::alloc::{AllocError, Global};
 
-// What a command that is accepted is answered.
+// What a command that is accepted is answered. It has the shape of an Option today and is an enum, since it names the
+// machine's replies, of which a read's bytes are the next.
 #[derive(Clone, Copy, Debug, PartialEq, Eq)]
 pub enum Reply {
     Done,
@@ -90,7 +91,7 @@ fn push_line(
 {
     match answer {
         Ok(Reply::Done) => push_plain(out, number, 0),
-        Ok(Reply::Counts(u)) => push_counts(out, number, [u.entries, u.records, u.marks, u.frames]),
+        Ok(Reply::Counts(u)) => push_counts(out, number, u.into()),
         Err(trouble) => push_plain(out, number, trouble.into()),
     }
 }
@@ -110,7 +111,7 @@ pub fn transcript(heap: Global, script: &[u8]) -> Result<String, AllocError>
 }
 
 // The most bytes that a script may have.
-const LONGEST: usize = 16384;
+pub const LONGEST: usize = 16384;
 
 // What the program prints for its input: the transcript, or that the script is too long.
 pub fn printed(heap: Global, input: &[u8]) -> Result<String, AllocError>

@@ -5,6 +5,6 @@ mod console;
 mod lines;
 mod reader;
 
-pub use console::{printed, transcript};
+pub use console::{LONGEST, printed, transcript};
 pub use lines::{push_bytes, push_counts, push_numbers, push_plain};
 pub use reader::{Area, BadRecord, Command, Record, Records, count_records, next_record};

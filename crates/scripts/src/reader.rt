@@ -144,7 +144,7 @@ fn parsed(body: &[u8]) -> Option<Command<'_>>
 }
 
 // The first record of a script, and the script after it; none where the script is at its end.
-#[tactic(auto, using(crate::proofs::Reading::items_none, crate::proofs::Reading::items_lone, crate::proofs::Reading::items_short, crate::proofs::Reading::take_rest))]
+#[tactic(auto, using(crate::proofs::Reading::items_none, crate::proofs::Reading::items_lone, crate::proofs::Reading::items_short, std::proofs::lemmas::List::take_rest))]
 pub fn next_record(script: &[u8]) -> Option<(Record<'_>, &[u8])>
     ensures { MatchOption result (Ends script.now) (λ p. Reads script.now p.0 p.1.now) }
 {

@@ -2,7 +2,7 @@
 ghost use Rattle.std.specs.Prelude.{◌≡◌, [], Some, None};
 ghost use Rattle.tasks.specs.Tables.{entries, shown, names};
 
-use machine::{Entry, Inheritance, Protection};
+use machine::Entry;
 use ranges::Table;
 
 // A task: its map entries, at most 16 of them.
@@ -10,16 +10,6 @@ pub type Task = Table<Entry, 16>;
 
 // The place of a task: none lives there if it is empty.
 pub type Place = Option<Task>;
-
-// What the rows of a table without entries hold.
-const UNUSED: Entry = Entry {
-    first: 0,
-    pages: 0,
-    protection: Protection::None,
-    inheritance: Inheritance::None,
-    sharing: 0,
-    index: 0,
-};
 
 // A place where no task lives.
 pub fn idle() -> Place
@@ -32,7 +22,7 @@ pub fn idle() -> Place
 pub fn started() -> Place
     ensures { shown result ≡ Some [] }
 {
-    Some(Table::new(UNUSED))
+    Some(Table::new(Entry::default()))
 }
 
 // Whether an entry of the task is on the record.
