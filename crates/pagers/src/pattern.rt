@@ -35,6 +35,7 @@ fn fill(page: u16, into: &mut [u8; 256])
     requires { page < 64 }
     ensures { (m : ℕ) → pattern.page m page ≡ bytes into.new }
 {
+    // By `enumerate`: a proof by `array::from_fn` was tried and did not close.
     for (i, byte) in into.iter_mut().enumerate() {
         *byte = byte_of(page, i);
     }

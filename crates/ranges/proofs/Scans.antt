@@ -1,14 +1,15 @@
 -- One row more of a scan.
-use Rattle.std.proofs.Common.{position, unwrap_or, cond, not, nat_lt, None, Bool, suc, refl, ◌≡◌, ℕ, ◌+◌, ◌<◌, true, false, List, [], ◌∷◌, ◌++◌, length, get_or, take, drop, Some, sym, ap, ◌∙◌, arith}
+use Rattle.std.proofs.Common.{find, ◌≤◌, ◌&&◌, nat_le, position, unwrap_or, cond, not, nat_lt, None, Bool, suc, refl, ◌≡◌, ℕ, ◌+◌, ◌<◌, true, false, List, [], ◌∷◌, ◌++◌, length, get_or, take, drop, Some, sym, ap, ◌∙◌, subst, arith}
 use Rattle.std.proofs.lemmas.List.{drop_more, take_more}
-use Rattle.std.proofs.lemmas.Bool.{cond-true, cond-false}
-use Rattle.std.proofs.lemmas.Bool.{ltb-false}
+use Rattle.std.proofs.lemmas.Bool.{and_parts, cond-true, cond-false, ltb-false}
+use Rattle.std.proofs.lemmas.Option.{none-some, same_Some}
 use Rattle.std.proofs.lemmas.List.Sums.{prefix_len-le-length}
 use Rattle.std.specs.List.{position_or_len}
-use Rattle.ranges.specs.Shape.{Shape, end, holds, proper}
-use Rattle.ranges.specs.Tables.{rising, inserted}
+use Rattle.std.specs.Option.{option_map}
+use Rattle.ranges.specs.Shape.{one_of, Shape, end, holds, proper}
+use Rattle.ranges.specs.Tables.{rising, said, inserted}
 use Rattle.ranges.specs.Places.{reach}
-use Rattle.ranges.proofs.Facts.{rising_facts, proper_from, proper_at}
+use Rattle.ranges.proofs.Facts.{rising_facts, proper_from, proper_at, holds_facts}
 
 pub drop_read : {E : Type 0} (xs : List E) (i : ℕ) (x : E) → i < length xs → x ≡ get_or xs i x → drop i xs ≡ x ∷ drop (i + 1) xs
 drop_read xs i x l read = drop_more xs i x l ∙ ap (λ y. y ∷ drop (i + 1) xs) (sym read)
@@ -53,3 +54,23 @@ at_place S e (y ∷ ys) = step (nat_lt (S.first e) (S.first y)) (at_place S e ys
 -- or at the end
 pub inserted_place : {E : Type 0} (S : Shape E) (e : E) (xs : List E) (n : ℕ) → n ≡ unwrap_or (position (λ x. nat_lt (S.first e) (S.first x)) xs) (length xs) → inserted S e xs ≡ take n xs ++ e ∷ drop n xs
 inserted_place S e xs n at = at_place S e xs ∙ ap (λ k. take k xs ++ e ∷ drop k xs) (sym (at ∙ place_is (λ x. nat_lt (S.first e) (S.first x)) xs))
+
+-- what a table says of a page is said by the first row that has it
+pub said_by : {E : Type 0} (S : Shape E) (p : ℕ) (xs : List E) → said S p xs ≡ option_map (one_of S p) (find (holds S p) xs)
+said_by S p [] = refl
+said_by S p (x ∷ xs) = step (holds S p x) (said_by S p xs)
+  where
+    step : (b : Bool) → said S p xs ≡ option_map (one_of S p) (find (holds S p) xs) → cond b (Some (one_of S p x)) (said S p xs) ≡ option_map (one_of S p) (cond b (Some x) (find (holds S p) xs))
+    step true more = refl
+    step false more = more
+
+-- and that row is proper
+pub found_row : {E : Type 0} (S : Shape E) (n p : ℕ) (xs : List E) (x : E) → rising S n xs ≡ true → find (holds S p) xs ≡ Some x → (proper S x ≡ true) × (S.first x ≤ p) × (p < end S x)
+found_row S n p [] x up h = absurd (none-some _ h)
+found_row S n p (y ∷ ys) x up h =
+    let parts = and_parts (proper S y && nat_le n (S.first y)) (rising S (end S y) ys) up in
+    step (holds S p y) refl h (and_parts (proper S y) (nat_le n (S.first y)) parts.0).0 (found_row S (end S y) p ys x parts.1)
+  where
+    step : (b : Bool) → holds S p y ≡ b → cond b (Some y) (find (holds S p) ys) ≡ Some x → proper S y ≡ true → (find (holds S p) ys ≡ Some x → (proper S x ≡ true) × (S.first x ≤ p) × (p < end S x)) → (proper S x ≡ true) × (S.first x ≤ p) × (p < end S x)
+    step true k e ok more = subst (λ z. (proper S z ≡ true) × (S.first z ≤ p) × (p < end S z)) (same_Some _ _ e) (ok, (holds_facts S p y k).0, (holds_facts S p y k).1)
+    step false k e ok more = more e

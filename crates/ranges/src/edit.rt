@@ -1,6 +1,7 @@
 // Edits of a lent slice: the first `len` rows are in use, and the slice's length is the most there can be. The project's rule wants
 // these over lent slices. A slice has no invariant, so where rows are cut it is asked that they rise; and a view of the slice with its
-// length would have to give the length back to whoever lent it. `Table` keeps both.
+// length would have to give the length back to whoever lent it. `Table` keeps both. An element that comes in is a plain row, so that
+// it is proper is asked too.
 ghost use Rattle.std.specs.Prelude.{◌≡◌, ℕ, ◌+◌, ◌-◌, ◌<◌, ◌≤◌, true, ◌||◌, List, ◌∷◌, ◌++◌, map, length, take, drop, IfSome, if◌then◌else◌};
 ghost use Rattle.ranges.specs.Shape.{Shape, Laws, end, proper};
 ghost use Rattle.ranges.specs.Tables.{rising, said, taken, inserted, removed, cut as cut_at, inside, altered};
@@ -95,6 +96,7 @@ fn extra<E: Element>(rows: &[E], page: u16) -> usize
     ensures small { result ≤ 1 }
     ensures count { length (cut_at E.Element.shape page rows.now) ≡ length rows.now + result }
 {
+    // Written out, as in `split`: the proofs of both need its two ends as they stand.
     let cut = Span {
         from: page,
         to: page,

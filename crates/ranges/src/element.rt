@@ -4,7 +4,8 @@ ghost use Rattle.ranges.specs.Shape.{Shape, Laws, Altering, end, front_of, back_
 
 use crate::range::Range;
 
-// Something said of each page of a range, such as a map entry. It is a plain row, so the methods ask that it is proper.
+// Something said of each page of a range, such as a map entry. It is a plain row, so the methods that make parts ask that it is
+// proper; and that a page is inside is asked of each, since it ties the page to this element, and no type of the page alone could.
 pub trait Element: Copy {
     ghost shape: { Shape Self };
 

@@ -28,7 +28,8 @@ pub fn meet<E: Element>(a: &E, b: &E) -> bool
     u32::from(a.first()) < end_of(b) && u32::from(b.first()) < end_of(a)
 }
 
-// What is left without the span's pages, of an element that does not lie around them.
+// What is left without the span's pages, of an element that does not lie around them. It is a plain row, and makes parts: so that it is
+// proper is asked.
 pub fn trim<E: Element>(e: E, span: Span) -> Option<E>
     requires proper { proper E.Element.shape e ≡ true }
     requires apart { E.Element.shape.first e < span.from → span.to < end E.Element.shape e → ⊥ }

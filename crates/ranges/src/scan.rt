@@ -1,6 +1,7 @@
 // Looks through a lent slice, and changes nothing. Where the rows have to rise this is asked, since a slice has no invariant.
 ghost use Rattle.std.specs.Prelude.{nat_lt, position, ◌≡◌, ℕ, ◌+◌, ◌-◌, ◌<◌, ◌≤◌, true, false, List, ◌∷◌, ◌++◌, length, take, drop, MatchOption};
-ghost use Rattle.ranges.specs.Shape.{Shape, Laws, end, proper};
+ghost use Rattle.std.specs.Prelude.{find as first_with};
+ghost use Rattle.ranges.specs.Shape.{Shape, Laws, end, proper, holds};
 ghost use Rattle.ranges.specs.Tables.{rising, said, taken, inserted, covered};
 ghost use Rattle.ranges.specs.Places.{Apart, Around, reach};
 
@@ -8,17 +9,20 @@ use crate::element::Element;
 use crate::range::{Range, Span};
 use crate::row::{end_of, has_page, meet};
 
+// The row that has the page.
+fn row_of<E: Element>(rows: &[E], page: u16) -> Option<E>
+    ensures { result ≡ first_with (holds E.Element.shape page) rows.now }
+{
+    rows.iter().copied().find(|row| has_page(row, page))
+}
+
 // What the table says of a page.
 pub fn find<E: Element>(rows: &[E], page: u16) -> Option<E>
     requires { rising E.Element.shape 0 rows.now ≡ true }
     ensures { result ≡ said E.Element.shape page rows.now }
 {
-    for row in rows {
-        if has_page(row, page) {
-            return Some(row.one(page));
-        }
-    }
-    None
+    let row = row_of(rows, page)?;
+    Some(row.one(page))
 }
 
 // Whether an element of the table has a page in common with `e`.
@@ -56,6 +60,7 @@ fn reached<E: Element>(rows: &[E], page: u16) -> u16
     ensures { result ≡ reach E.Element.shape page rows.now }
 {
     let mut page = page;
+    // A loop that carries the page on: a fold would be no plainer, and that the page fits is known row by row.
     for row in rows {
         if has_page(row, page) {
             page = end_of(row) as u16;
