@@ -1,5 +1,6 @@
 -- A task that gains an entry whose cells are living cells, or copies of such.
 use Rattle.std.proofs.Common.{◌≡◌, ℕ, ◌+◌, ◌-◌, ◌<◌, ◌≤◌, Bool, true, false, cond, ◌&&◌, ◌||◌, eqb, ltb, leb, ◌⊎◌, List, [], ◌∷◌, ◌++◌, length, get_or, set, Some, None, sym, refl, ap, ◌∙◌, subst, inl, inr, arith}
+use Rattle.std.proofs.Math.Bool.{or-false, or_assoc}
 use Rattle.std.proofs.lemmas.Bool.{cases_eq, le-leb, leb-true, ltb-true, and_parts, and_from, or_cases, or_left, or_right}
 use Rattle.ranges.specs.Shape.{Shape, holds, proper, one_of}
 use Rattle.ranges.specs.Tables.{rising, said}
@@ -98,16 +99,8 @@ module _ (F : ℕ) (tasks tasks' : List Place) (t t' : Tables) (memory : List �
 -- Records that entries name
 
 names_last : (r : ℕ) (xs : List Entry) (y : Entry) → names r (xs ++ (y ∷ [])) ≡ (names r xs || eqb y.sharing r)
-names_last r [] y = or_false (eqb y.sharing r)
-  where
-    or_false : (b : Bool) → (b || false) ≡ b
-    or_false true = refl
-    or_false false = refl
+names_last r [] y = or-false (eqb y.sharing r)
 names_last r (x ∷ xs) y = ap (λ b. eqb x.sharing r || b) (names_last r xs y) ∙ sym (or_assoc (eqb x.sharing r) (names r xs) (eqb y.sharing r))
-  where
-    or_assoc : (a b c : Bool) → ((a || b) || c) ≡ (a || (b || c))
-    or_assoc true b c = refl
-    or_assoc false b c = refl
 
 -- a row with one entry more names its record too
 pub named_last : (r : ℕ) (tasks : List Place) (k : ℕ) (x : Place) (y : Entry) → k < length tasks → table_of x ≡ table_of (get_or tasks k None) ++ (y ∷ []) → is_record_named r (set tasks k x) ≡ (is_record_named r tasks || eqb y.sharing r)

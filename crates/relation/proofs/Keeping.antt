@@ -22,9 +22,6 @@ pub record Begun (M : Meaning) (frame : ℕ → List ℕ) (mark : ℕ → ℕ) (
   pub frameless : (k : ℕ) → end ≡ Frame k → ⊥
   pub shows : Shows M frame mark end c
 
-some_same : (a b : End) → Some a ≡ Some b → a ≡ b
-some_same a b e = cc
-
 -- a call that writes nothing: each living cell is a copy or begun, each held frame was held and is reached
 pub keeps : (M : Meaning) (frame : ℕ → List ℕ) (mark : ℕ → ℕ) (writes : ℕ) (living living' : ℕ → ℕ → Type 0) (end end' : ℕ → ℕ → Option End) (cells cells' : ℕ → ℕ → Cell) (held held' : ℕ → Bool) →
     Mirror M frame mark writes living end cells held →

@@ -4,7 +4,7 @@ use Rattle.std.specs.List.{flat_map}
 use Rattle.std.proofs.lemmas.Bool.{both_ways, eq-eqb, eqb-true, eqb-false, or_cases, or_left, or_right}
 use Rattle.machine.specs.State.{member, distinct}
 
--- x is in the list
+-- x is in the list, by cases on it: std's `Contains` is by index, and std has no lemma on it for `map` and `flat_map`, as these are
 abbrev pub Among : {A : Type 0} → A → List A → Type 0
 Among x [] = ⊥
 Among x (y ∷ ys) = (x ≡ y) ⊎ Among x ys

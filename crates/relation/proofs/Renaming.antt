@@ -1,5 +1,6 @@
 -- Which records are named once one task's row is replaced.
 use Rattle.std.proofs.Common.{◌≡◌, ℕ, zero, suc, ◌+◌, ◌<◌, Bool, true, false, cond, ◌&&◌, ◌||◌, eqb, ◌⊎◌, List, [], ◌∷◌, length, get_or, set, Some, None, sym, refl, ap, ◌∙◌, inl, inr, arith}
+use Rattle.std.proofs.lemmas.Option.{same_Some}
 use Rattle.std.proofs.lemmas.Bool.{both_ways, cases_Bool, eq-eqb, eqb-true, le-leb, lt-ltb, and_from, or_cases, or_left, or_right}
 use Rattle.ranges.specs.Says.{Inserts}
 use Rattle.ranges.specs.Shape.{holds}
@@ -23,9 +24,6 @@ pub both_imply : (a b : Bool) → (a ≡ true → b ≡ true) → (b ≡ true �
 both_imply true b f g = sym (f refl)
 both_imply false true f g = g refl
 both_imply false false f g = refl
-
-some_same : (a b : Entry) → Some a ≡ Some b → a ≡ b
-some_same a b e = cc
 
 -- One row replaced
 
@@ -146,7 +144,7 @@ module _ (tasks : List Place) (t : Tables) (k : ℕ) (x : Place) (lt : k < lengt
           at c.0 c.1 c.2 (holds entry_shape c.0 (fresh_entry q start pages)) (sym (law c.0) ∙ c.2.says)
         where
           at : (p i : ℕ) (n : Names (table_of x) p r i) (b : Bool) → cond b (Some (part p 1 (fresh_entry q start pages))) (said entry_shape p (table_of (get_or tasks k None))) ≡ Some n.entry → (is_record_named r tasks || eqb r q) ≡ true
-          at p i n true s = or_right (is_record_named r tasks) (eqb r q) (eq-eqb r q (sym n.sharing ∙ ap (λ (y : Entry). y.sharing) (sym (some_same (part p 1 (fresh_entry q start pages)) n.entry s))))
+          at p i n true s = or_right (is_record_named r tasks) (eqb r q) (eq-eqb r q (sym n.sharing ∙ ap (λ (y : Entry). y.sharing) (sym (same_Some (part p 1 (fresh_entry q start pages)) n.entry s))))
           at p i n false s = or_left (is_record_named r tasks) (eqb r q) (row_named r tasks k (cell_names r (table_of (get_or tasks k None)) p i (record { entry = n.entry; says = s; sharing = n.sharing; index = n.index })))
 
 -- Other invariants

@@ -1,6 +1,7 @@
 -- The engine's rows of tasks and the machine's tasks.
 use Rattle.std.proofs.Common.{◌≡◌, ℕ, zero, suc, ◌+◌, ◌-◌, ◌<◌, Bool, true, false, cond, not, ◌&&◌, leb, ◌⊎◌, List, [], ◌∷◌, length, get_or, set, is_some, Some, None, Option, unwrap_or, sym, refl, ap, ◌∙◌, subst, inl, inr, arith}
 use Rattle.std.specs.List.{flat_map}
+use Rattle.std.proofs.lemmas.Option.{none-some, same_Some}
 use Rattle.std.proofs.lemmas.Bool.{both_ways, cases_eq, eq-eqb, ne_eqb, leb-true, le-leb, and_parts, and_from}
 use Rattle.std.proofs.lemmas.List.{get_or-set_same, get_or-set_other}
 use Rattle.ranges.specs.Tables.{rising}
@@ -18,19 +19,13 @@ SameTasks tasks s = (n : ℕ) → s.tasks n ≡ task_at tasks (place_of n)
 
 -- Places
 
-none_some : (k : ℕ) → None ≡ Some k → ⊥
-none_some k e = let z : ◌≡◌ {A = ℕ} 0 1 = cc in omega arith
-
-same_some : (j k : ℕ) → Some j ≡ Some k → j ≡ k
-same_some j k e = cc
-
 placeless : (b : Bool) (k : ℕ) → cond b (Some k) None ≡ None → not b ≡ true
-placeless true k e = absurd (none_some k (sym e))
+placeless true k e = absurd (none-some k (sym e))
 placeless false k e = refl
 
 placed : (b : Bool) (j k : ℕ) → cond b (Some j) None ≡ Some k → (b ≡ true) × (j ≡ k)
-placed true j k e = (refl, same_some j k e)
-placed false j k e = absurd (none_some k e)
+placed true j k e = (refl, same_Some j k e)
+placed false j k e = absurd (none-some k e)
 
 -- a number with no place is none of a task's, and one with a place is
 pub outside : (n : ℕ) → place_of n ≡ None → misnumbered n ≡ true

@@ -1,5 +1,6 @@
 -- Closing records and freeing frames, one by one.
 use Rattle.std.proofs.Common.{◌≡◌, ℕ, ◌+◌, ◌<◌, ◌≤◌, Bool, true, false, not, ◌&&◌, ◌||◌, leb, ◌⊎◌, List, length, get_or, is_some, Some, None, Option, sym, refl, ap, ◌∙◌, subst, inl, inr, arith}
+use Rattle.std.proofs.Math.Bool.{or-false}
 use Rattle.std.proofs.lemmas.Bool.{both_ways, cases_eq, cases_lt, eq-eqb, ne_eqb, le-leb, lt-leb, or_left}
 use Rattle.chains.specs.declared.Owner.{Owner}
 use Rattle.objects.specs.declared.tables.Tables.{Tables}
@@ -24,10 +25,6 @@ and_true false = refl
 or_true : (b : Bool) → (b || true) ≡ true
 or_true true = refl
 or_true false = refl
-
-or_false : (b : Bool) → (b || false) ≡ b
-or_false true = refl
-or_false false = refl
 
 pub swept_none : (keep : ℕ → Bool) (t : Tables) → Swept (kept_from keep 0) t t
 swept_none keep t = record {
@@ -93,7 +90,7 @@ swept_all keep t a few s = record {
 }
   where
     low : (k : ℕ) → k < 256 → kept_from keep 256 k ≡ keep k
-    low k l = ap (λ b. keep k || b) (lt-leb 256 k l) ∙ or_false (keep k)
+    low k l = ap (λ b. keep k || b) (lt-leb 256 k l) ∙ or-false (keep k)
 
 -- Frames
 
