@@ -21,6 +21,7 @@ entry_shape = record {
   first = λ e. e.first;
   pages = λ e. e.pages;
   part = part;
+  one = λ p e. part p 1 e;
   fits = λ e. nat_le (e.index + e.pages) 4096;
 }
 

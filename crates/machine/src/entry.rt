@@ -26,6 +26,10 @@ impl Element for Entry {
             ..*self
         }
     }
+
+    fn one(&self, page: u16) -> Entry {
+        self.part(page, 1)
+    }
 }
 
 // As a change, a protection gives each entry itself.

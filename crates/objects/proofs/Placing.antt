@@ -40,7 +40,7 @@ module _ (t : Tables) (S : SoundTables t) where
   frame_same e = cc
 
   -- the frame at which the walk ends
-  placeable_end : (r i s : ℕ) → in_use t r ≡ true → s < 128 → ((k : ℕ) → walk_end t r i ≡ Some (Frame k) → k ≡ s) → placeable t r i s ≡ true
+  pub placeable_end : (r i s : ℕ) → in_use t r ≡ true → s < 128 → ((k : ℕ) → walk_end t r i ≡ Some (Frame k) → k ≡ s) → placeable t r i s ≡ true
   placeable_end r i s u l only = let x = used_top t r u in placeable_top r x.0 i s x.1 l (inr (at x.0 x.1 (slot_of 128 (owner_of t) x.0 i) refl))
     where
       at : (o : ℕ) → top_of t r ≡ Some o → (y : Option ℕ) → slot_of 128 (owner_of t) o i ≡ y → other_frame (slot_of 128 (owner_of t) o i) s ≡ false
@@ -48,7 +48,7 @@ module _ (t : Tables) (S : SoundTables t) where
       at o top (Some k) e = ap (λ z. other_frame z s) e ∙ not_from_true (eqb k s) (eq-eqb k s (only k (top_end r o i k top e)))
 
   -- any frame, where another record's walk ends at the same frame
-  placeable_both : (r k i s f : ℕ) → (k ≡ r → ⊥) → in_use t r ≡ true → in_use t k ≡ true → s < 128 → walk_end t r i ≡ Some (Frame f) → walk_end t k i ≡ Some (Frame f) → placeable t r i s ≡ true
+  pub placeable_both : (r k i s f : ℕ) → (k ≡ r → ⊥) → in_use t r ≡ true → in_use t k ≡ true → s < 128 → walk_end t r i ≡ Some (Frame f) → walk_end t k i ≡ Some (Frame f) → placeable t r i s ≡ true
   placeable_both r k i s f d u v l h g =
       let x = used_top t r u in
       let y = used_top t k v in

@@ -10,11 +10,11 @@ use Rattle.std.proofs.lemmas.Option.{none-some}
 use Rattle.chains.specs.declared.Backing.{Backing}
 use Rattle.chains.specs.declared.Backing.TheVariants.{Free, Root, Shadow}
 use Rattle.chains.specs.contracts.BackingPartialEq.TheImpl as row_eq
-use Rattle.chains.specs.declared.Owner.{Owner}
-use Rattle.chains.specs.contracts.OwnerPartialEq.TheImpl as owner_eq
-use Rattle.chains.specs.Rows.{live, is_shadowing, is_naming, is_owned_by, sum_to, bit, count}
+use Rattle.chains.specs.Rows.{live, is_shadowing, is_naming, sum_to, bit, count}
 use Rattle.chains.specs.Walks.{lowest}
 use Rattle.chains.proofs.Finds.{lowest_is, lowest_not}
+use Rattle.objects.specs.declared.tables.Tables.{Tables}
+use Rattle.objects.specs.View.{records_used, frames_held}
 
 -- the first row that passes
 first_lowest : {A : Type 0} (d : A) (p : A → Bool) (q : ℕ → Bool) (xs : List A) → ((k : ℕ) → k < length xs → p (get_or xs k d) ≡ q k) → position p xs ≡ lowest (length xs) q
@@ -59,12 +59,16 @@ module _ {A : Type 0} (d : A) (p q : A → Bool) (same : (x : A) → p x ≡ q x
       h ∙ first_lowest d p (λ k. q (get_or xs k d)) (take m xs) (λ k l. ap p (get_or-take m xs k d (omega (arith, e))) ∙ same (get_or xs k d))
       ∙ ap (λ i. lowest i (λ k. q (get_or xs k d))) e
 
--- what `==` says of rows, tops and owners
+-- how many records are in use, and how many frames are held
+pub records_counted : (t : Tables) → length t.records ≡ 256 → count_by is_some t.records ≡ records_used t
+records_counted t long = count_is None is_some is_some (λ x. refl) t.records 256 long
+
+pub frames_counted : (t : Tables) → length t.frames ≡ 128 → count_by is_some t.frames ≡ frames_held t
+frames_counted t long = count_is None is_some is_some (λ x. refl) t.frames 128 long
+
+-- what `==` says of rows and tops
 abbrev pub same_row : Backing → Backing → Bool
 same_row = (row_eq.ghosts).eq
-
-abbrev pub same_owner : Option Owner → Option Owner → Bool
-same_owner = option_eq (owner_eq.ghosts).eq
 
 pub is_free : (b : Backing) → same_row b Free ≡ not (live b)
 is_free Free = refl
@@ -83,7 +87,3 @@ is_unused same (Some a) = refl
 pub is_top : (o : ℕ) (x : Option ℕ) → option_eq eqb x (Some o) ≡ is_naming o x
 is_top o None = refl
 is_top o (Some p) = refl
-
-pub is_owner : (w : Owner) (x : Option Owner) → same_owner x (Some w) ≡ is_owned_by w.object w.index x
-is_owner w None = refl
-is_owner w (Some v) = refl

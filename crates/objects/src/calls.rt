@@ -36,6 +36,7 @@ impl Store {
     }
 
     // How many records are in use.
+    #[tactic(auto, using(crate::proofs::Scans::records_counted))]
     pub fn records_in_use(&self) -> usize
         ensures { result ≡ records_used self.now.tables }
     {
@@ -43,6 +44,7 @@ impl Store {
     }
 
     // How many frames are held.
+    #[tactic(auto, using(crate::proofs::Scans::frames_counted))]
     pub fn held(&self) -> usize
         ensures { result ≡ frames_held self.now.tables }
     {

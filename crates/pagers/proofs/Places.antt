@@ -3,7 +3,6 @@ use Rattle.std.proofs.Common.{◌≡◌, ℕ, ◌+◌, ◌<◌, Bool, true, fals
 use Rattle.std.proofs.lemmas.Bool.{or_parts, lt-ltb, and_from, cond-true, cases_Bool, both_ways}
 use Rattle.std.specs.Option.{option_map, option_or}
 use Rattle.std.proofs.Math.Bool.{or_assoc, or_comm}
-use Rattle.ranges.specs.Shape.{one_of}
 use Rattle.ranges.specs.Tables.{said, taken, inserted}
 use Rattle.ranges.specs.Says.{Inserts}
 use Rattle.ranges.proofs.Facts.{holds_facts}
@@ -18,7 +17,7 @@ position e = e.position
 pub place_said : (p : ℕ) (es : List Extent) → place p es ≡ option_map position (said extent_shape p es)
 place_said p [] = refl
 place_said p (e ∷ es) =
-    elim (has p e) as (λ b. cond b (Some (position_of p e)) (place p es) ≡ option_map position (cond b (Some (one_of extent_shape p e)) (said extent_shape p es))) [
+    elim (has p e) as (λ b. cond b (Some (position_of p e)) (place p es) ≡ option_map position (cond b (Some (extent_shape.one p e)) (said extent_shape p es))) [
       | true ↦ refl
       | false ↦ place_said p es
     ]

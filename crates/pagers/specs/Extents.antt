@@ -19,6 +19,7 @@ extent_shape = record {
   first = λ e. e.first;
   pages = λ e. e.pages;
   part = λ p n e. extent p n (position_of p e);
+  one = λ p e. extent p 1 (position_of p e);
   fits = λ e. nat_lt (e.position + 256 * e.pages) (2 ^ 64);
 }
 

@@ -31,4 +31,8 @@ impl Element for Extent {
             position: self.position + 256 * u64::from(first - self.first),
         }
     }
+
+    fn one(&self, page: u16) -> Extent {
+        self.part(page, 1)
+    }
 }

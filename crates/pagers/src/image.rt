@@ -68,10 +68,12 @@ impl<'a> Pager for Image<'a> {
         if object != 0 || page >= self.layout.pages {
             return Err(PagerFault::missing(object, page));
         }
-        *into = match self.layout.place(page) {
-            Some(position) => bytes_at(self.body, position).ok_or(PagerFault::past_data(page))?,
-            None => [0; 256],
-        };
+        match self.layout.place(page) {
+            Some(position) => {
+                *into = bytes_at(self.body, position).ok_or(PagerFault::past_data(page))?;
+            }
+            None => *into = [0; 256],
+        }
         Ok(())
     }
 }

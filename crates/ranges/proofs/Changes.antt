@@ -5,7 +5,7 @@ use Rattle.std.proofs.lemmas.Grind.{flat_map-append}
 use Rattle.std.proofs.lemmas.List.Edits.{map_over_more}
 use Rattle.std.proofs.lemmas.Bool.{and_from, and_left, and_right, lt-ltb, le-ltb, le-leb, lt-leb, cond-true, cond-false, cases_lt}
 use Rattle.std.specs.Option.{option_map}
-use Rattle.ranges.specs.Shape.{Shape, Laws, Altering, end, front_of, back_of, one_of}
+use Rattle.ranges.specs.Shape.{Shape, Laws, Altering, end, front_of, back_of}
 use Rattle.ranges.specs.Tables.{rising, said, trimmed, cut, inside, altered}
 use Rattle.ranges.specs.Says.{full, among, Alters}
 use Rattle.ranges.proofs.Facts.{Proper, used, Rising, rising_facts, rising_from, rising_lower, said_here, said_past}
@@ -165,13 +165,13 @@ module _ {E : Type 0} (S : Shape E) (h : E → E) (A : Altering S h) (f g : ℕ)
   here : (p : ℕ) (e : E) (es : List E) → Proper S e → (end S e ≤ f) ⊎ (f ≤ S.first e) → (end S e ≤ g) ⊎ (g ≤ S.first e) → S.first e ≤ p → p < end S e → said S p (map (change_in S h f g) (e ∷ es)) ≡ changed_says (said S p (e ∷ es)) p
   here p e es ok at_f at_g from below =
       let o = said S p (e ∷ es) in
-      let said_e : o ≡ Some (one_of S p e) = said_here S p e es from below in
-      let done : said S p (map (change_in S h f g) (e ∷ es)) ≡ Some (one_of S p (change_in S h f g e)) = said_here S p (change_in S h f g e) (map (change_in S h f g) es) (omega (arith, first_same (inside S f g e) e)) (omega (arith, end_same (inside S f g e) e)) in
+      let said_e : o ≡ Some (S.one p e) = said_here S p e es from below in
+      let done : said S p (map (change_in S h f g) (e ∷ es)) ≡ Some (S.one p (change_in S h f g e)) = said_here S p (change_in S h f g e) (map (change_in S h f g) es) (omega (arith, first_same (inside S f g e) e)) (omega (arith, end_same (inside S f g e) e)) in
       done ∙ ⊎_elim
-      (λ a. ap (λ x. Some (one_of S p x)) (inside_below e (omega (arith, ok.some))) ∙ sym said_e ∙ sym (among_below p o (omega arith)))
+      (λ a. ap (λ x. Some (S.one p x)) (inside_below e (omega (arith, ok.some))) ∙ sym said_e ∙ sym (among_below p o (omega arith)))
       (λ a. ⊎_elim
-      (λ b. ap (λ x. Some (one_of S p x)) (inside_yes e a b) ∙ ap Some (A.page_by_page e p) ∙ ap (option_map h) (sym said_e) ∙ sym (among_yes p o (omega arith) (omega arith)))
-      (λ b. ap (λ x. Some (one_of S p x)) (inside_above e (omega (arith, ok.some))) ∙ sym said_e ∙ sym (among_above p o (omega arith)))
+      (λ b. ap (λ x. Some (S.one p x)) (inside_yes e a b) ∙ ap Some (A.page_by_page e p) ∙ ap (option_map h) (sym said_e) ∙ sym (among_yes p o (omega arith) (omega arith)))
+      (λ b. ap (λ x. Some (S.one p x)) (inside_above e (omega (arith, ok.some))) ∙ sym said_e ∙ sym (among_above p o (omega arith)))
       at_g)
       at_f
 

@@ -1,7 +1,7 @@
 -- Proper elements and rising tables as facts, and what a table says of a page.
 use Rattle.std.proofs.Common.{◌≡◌, ℕ, zero, suc, ◌-◌, ◌<◌, ◌≤◌, true, false, ◌⊎◌, List, [], ◌∷◌, length, get_or, take, Some, None, refl, ap, ◌∙◌, inl, ⊎_elim, arith}
 use Rattle.std.proofs.lemmas.Bool.{and_parts, and_from, and_left, and_right, ltb-true, leb-true, lt-ltb, le-ltb, le-leb, lt-leb, cond-true, cond-false}
-use Rattle.ranges.specs.Shape.{Shape, end, holds, proper, one_of}
+use Rattle.ranges.specs.Shape.{Shape, end, holds, proper}
 use Rattle.ranges.specs.Tables.{rising, said}
 
 -- the rows in use, as `&rows[0..len]` is read
@@ -54,7 +54,7 @@ module _ {E : Type 0} (S : Shape E) where
   pub holds_no : (p : ℕ) (e : E) → (p < S.first e) ⊎ (end S e ≤ p) → holds S p e ≡ false
   holds_no p e = ⊎_elim (λ h. and_left _ _ (lt-leb _ _ h)) (λ h. and_right _ _ (le-ltb _ _ h))
 
-  pub said_here : (p : ℕ) (e : E) (es : List E) → S.first e ≤ p → p < end S e → said S p (e ∷ es) ≡ Some (one_of S p e)
+  pub said_here : (p : ℕ) (e : E) (es : List E) → S.first e ≤ p → p < end S e → said S p (e ∷ es) ≡ Some (S.one p e)
   said_here p e es from below = cond-true _ _ _ (holds_yes p e from below)
 
   pub said_past : (p : ℕ) (e : E) (es : List E) → (p < S.first e) ⊎ (end S e ≤ p) → said S p (e ∷ es) ≡ said S p es

@@ -4,7 +4,7 @@ use borrow.Rule.Slice.PartMut.{put_mid}
 use Rattle.std.proofs.lemmas.List.{length-set, length-take-le, length-drop, length_push, take-set-le, take-take, take_more_set, drop-append-le, take_at, drop_at}
 use Rattle.std.proofs.lemmas.Slice.{take-put_mid, between_is}
 use Rattle.std.proofs.lemmas.Bool.{and_cases, or_parts, ltb-false, lt-ltb, le-ltb, cond-true, cond-false, cases_lt}
-use Rattle.ranges.specs.Shape.{Shape, end, holds, proper, one_of}
+use Rattle.ranges.specs.Shape.{Shape, end, holds, proper}
 use Rattle.ranges.specs.Tables.{rising, said, meets, taken, inserted}
 use Rattle.ranges.specs.Says.{Inserts, full}
 use Rattle.ranges.proofs.Facts.{Proper, Rising, used, proper_facts, rising_facts, rising_from, said_past, holds_yes, holds_no}
@@ -60,7 +60,7 @@ module _ {E : Type 0} (S : Shape E) where
   inserted_says n e [] up ok free p = refl
   inserted_says n e (x ∷ xs) up ok free p =
       let parts : (meets S e x ≡ false) × (taken S e xs ≡ false) = or_parts _ _ free in
-      let more : said S p (inserted S e xs) ≡ cond (holds S p e) (Some (one_of S p e)) (said S p xs) = inserted_says (end S x) e xs up.2 ok parts.1 p in
+      let more : said S p (inserted S e xs) ≡ cond (holds S p e) (Some (S.one p e)) (said S p xs) = inserted_says (end S x) e xs up.2 ok parts.1 p in
       elim (cases_lt (S.first e) (S.first x)) [
         | inl h ↦ ap (said S p) (before_head e x xs h)
         | inr h ↦ ap (said S p) (after_head e x xs h) ∙ elim (cases_lt p (S.first e)) [
@@ -72,8 +72,8 @@ module _ {E : Type 0} (S : Shape E) where
         ]
       ]
     where
-      other : (p : ℕ) (x : E) (xs : List E) (e : E) → holds S p e ≡ false → said S p (inserted S e xs) ≡ cond (holds S p e) (Some (one_of S p e)) (said S p xs) → said S p (x ∷ inserted S e xs) ≡ cond (holds S p e) (Some (one_of S p e)) (said S p (x ∷ xs))
-      other p x xs e out more = ap (cond (holds S p x) (Some (one_of S p x))) (more ∙ cond-false _ _ _ out) ∙ sym (cond-false _ _ _ out)
+      other : (p : ℕ) (x : E) (xs : List E) (e : E) → holds S p e ≡ false → said S p (inserted S e xs) ≡ cond (holds S p e) (Some (S.one p e)) (said S p xs) → said S p (x ∷ inserted S e xs) ≡ cond (holds S p e) (Some (S.one p e)) (said S p (x ∷ xs))
+      other p x xs e out more = ap (cond (holds S p x) (Some (S.one p x))) (more ∙ cond-false _ _ _ out) ∙ sym (cond-false _ _ _ out)
 
   -- the table ys is es with e inserted
   module _ (e : E) (es : List E) (up : rising S 0 es ≡ true) (ok : proper S e ≡ true) (free : taken S e es ≡ false) where

@@ -1,7 +1,7 @@
 -- A table without some pages: what it says, and that it rises.
 use Rattle.std.proofs.Common.{◌≡◌, ℕ, ◌<◌, ◌≤◌, cond, ◌⊎◌, List, [], ◌∷◌, ◌++◌, Some, None, sym, refl, ap, ◌∙◌, inl, inr, ⊎_elim, arith}
 use Rattle.std.proofs.lemmas.Bool.{and_from, and_left, and_right, lt-ltb, le-ltb, le-leb, lt-leb, cond-true, cond-false, cases_lt}
-use Rattle.ranges.specs.Shape.{Shape, Laws, end, holds, front_of, back_of, one_of}
+use Rattle.ranges.specs.Shape.{Shape, Laws, end, holds, front_of, back_of}
 use Rattle.ranges.specs.Tables.{said, removed, cut}
 use Rattle.ranges.specs.Says.{Removes, Keeps}
 use Rattle.ranges.proofs.Facts.{Proper, Rising, rising_lower, said_here, said_past}
@@ -29,11 +29,11 @@ module _ {E : Type 0} (S : Shape E) (L : Laws S) where
   }
 
   -- what a part says is what the whole says
-  said_front : (p q : ℕ) (e : E) (r : List E) → S.first e < p → p < end S e → S.first e ≤ q → q < p → said S q (front_of S p e ∷ r) ≡ Some (one_of S q e)
+  said_front : (p q : ℕ) (e : E) (r : List E) → S.first e < p → p < end S e → S.first e ≤ q → q < p → said S q (front_of S p e ∷ r) ≡ Some (S.one q e)
   said_front p q e r a b from below =
       said_here S q _ r (omega (arith, L.front_first e p a b)) (omega (arith, front_end e p a b)) ∙ ap Some (L.front_says e p q from below b)
 
-  said_back : (p q : ℕ) (e : E) (r : List E) → S.first e < p → p < end S e → p ≤ q → q < end S e → said S q (back_of S p e ∷ r) ≡ Some (one_of S q e)
+  said_back : (p q : ℕ) (e : E) (r : List E) → S.first e < p → p < end S e → p ≤ q → q < end S e → said S q (back_of S p e ∷ r) ≡ Some (S.one q e)
   said_back p q e r a b from below =
       said_here S q _ r (omega (arith, L.back_first e p a b)) (omega (arith, back_end e p a b)) ∙ ap Some (L.back_says e p q a from below)
 
@@ -110,7 +110,7 @@ module _ {E : Type 0} (S : Shape E) (L : Laws S) where
   trim_rises {f} {g} {e} n r le ok from up (inside a b) = rising_lower S _ _ r (omega arith) up
 
   said_tail : (q : ℕ) (e : E) (xs ys : List E) → said S q xs ≡ said S q ys → said S q (e ∷ xs) ≡ said S q (e ∷ ys)
-  said_tail q e xs ys h = ap (cond (holds S q e) (Some (one_of S q e))) h
+  said_tail q e xs ys h = ap (cond (holds S q e) (Some (S.one q e))) h
 
   removed_keeps : (n f g q : ℕ) (es : List E) → Rising S n es → f ≤ g → (q < f) ⊎ (g ≤ q) → said S q (removed S f g es) ≡ said S q es
   removed_keeps n f g q [] up le out = refl

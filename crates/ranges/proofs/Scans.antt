@@ -6,7 +6,7 @@ use Rattle.std.proofs.lemmas.Option.{none-some, same_Some}
 use Rattle.std.proofs.lemmas.List.Sums.{prefix_len-le-length}
 use Rattle.std.specs.List.{position_or_len}
 use Rattle.std.specs.Option.{option_map}
-use Rattle.ranges.specs.Shape.{one_of, Shape, end, holds, proper}
+use Rattle.ranges.specs.Shape.{Shape, end, holds, proper}
 use Rattle.ranges.specs.Tables.{rising, said, inserted}
 use Rattle.ranges.specs.Places.{reach}
 use Rattle.ranges.proofs.Facts.{rising_facts, proper_from, proper_at, holds_facts}
@@ -56,11 +56,11 @@ pub inserted_place : {E : Type 0} (S : Shape E) (e : E) (xs : List E) (n : ℕ) 
 inserted_place S e xs n at = at_place S e xs ∙ ap (λ k. take k xs ++ e ∷ drop k xs) (sym (at ∙ place_is (λ x. nat_lt (S.first e) (S.first x)) xs))
 
 -- what a table says of a page is said by the first row that has it
-pub said_by : {E : Type 0} (S : Shape E) (p : ℕ) (xs : List E) → said S p xs ≡ option_map (one_of S p) (find (holds S p) xs)
+pub said_by : {E : Type 0} (S : Shape E) (p : ℕ) (xs : List E) → said S p xs ≡ option_map (S.one p) (find (holds S p) xs)
 said_by S p [] = refl
 said_by S p (x ∷ xs) = step (holds S p x) (said_by S p xs)
   where
-    step : (b : Bool) → said S p xs ≡ option_map (one_of S p) (find (holds S p) xs) → cond b (Some (one_of S p x)) (said S p xs) ≡ option_map (one_of S p) (cond b (Some x) (find (holds S p) xs))
+    step : (b : Bool) → said S p xs ≡ option_map (S.one p) (find (holds S p) xs) → cond b (Some (S.one p x)) (said S p xs) ≡ option_map (S.one p) (cond b (Some x) (find (holds S p) xs))
     step true more = refl
     step false more = more
 

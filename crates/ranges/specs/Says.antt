@@ -1,7 +1,7 @@
 -- What an edit leaves in the rows, and what the edited table says of each page.
 use Rattle.std.specs.Prelude.{◌≡◌, ℕ, ◌≤◌, Bool, true, false, cond, ◌&&◌, List, length, take, Some, None, Option, nat_le, nat_lt}
 use Rattle.std.specs.Option.{option_map}
-use Rattle.ranges.specs.Shape.{Shape, holds, one_of}
+use Rattle.ranges.specs.Shape.{Shape, holds}
 use Rattle.ranges.specs.Tables.{said}
 
 -- the table does not fit the rows
@@ -20,7 +20,7 @@ among f g p = nat_le f p && nat_lt p g
 
 -- e's pages are said by e, and every other as before
 abbrev pub Inserts : {E : Type 0} → Shape E → E → List E → List E → Type 0
-Inserts S e old new = (p : ℕ) → said S p new ≡ cond (holds S p e) (Some (one_of S p e)) (said S p old)
+Inserts S e old new = (p : ℕ) → said S p new ≡ cond (holds S p e) (Some (S.one p e)) (said S p old)
 
 -- nothing is said of a page from f to before g, and every other is said as before
 abbrev pub Removes : {E : Type 0} → Shape E → ℕ → ℕ → List E → List E → Type 0

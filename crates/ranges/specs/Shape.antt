@@ -8,6 +8,8 @@ pub record Shape (E : Type 0) : Type 0 where
   pub pages : E → ℕ
   -- the part of so many pages from a page on
   pub part : ℕ → ℕ → E → E
+  -- what the element says of a page: an element of that page alone
+  pub one : ℕ → E → E
   -- what the element says of its last page is still in the kind's bounds
   pub fits : E → Bool
 
@@ -22,10 +24,6 @@ front_of S p e = S.part (S.first e) (p - S.first e) e
 -- the part from a page on
 abbrev pub back_of : {E : Type 0} → Shape E → ℕ → E → E
 back_of S p e = S.part p (end S e - p) e
-
--- what the element says of a page: the element of that page alone
-abbrev pub one_of : {E : Type 0} → Shape E → ℕ → E → E
-one_of S p e = S.part p 1 e
 
 -- the element has a page, lies within a task and keeps the kind's bounds
 abbrev pub proper : {E : Type 0} → Shape E → E → Bool
@@ -44,14 +42,14 @@ pub record Laws {E : Type 0} (S : Shape E) : Type 0 where
   pub back_pages : (e : E) (p : ℕ) → S.first e < p → p < end S e → S.pages (back_of S p e) ≡ end S e - p
   pub front_fits : (e : E) (p : ℕ) → S.fits e ≡ true → S.first e < p → p < end S e → S.fits (front_of S p e) ≡ true
   pub back_fits : (e : E) (p : ℕ) → S.fits e ≡ true → S.first e < p → p < end S e → S.fits (back_of S p e) ≡ true
-  pub front_says : (e : E) (p q : ℕ) → S.first e ≤ q → q < p → p < end S e → one_of S q (front_of S p e) ≡ one_of S q e
-  pub back_says : (e : E) (p q : ℕ) → S.first e < p → p ≤ q → q < end S e → one_of S q (back_of S p e) ≡ one_of S q e
-  pub one_first : (e : E) (q : ℕ) → S.first (one_of S q e) ≡ q
-  pub one_pages : (e : E) (q : ℕ) → S.pages (one_of S q e) ≡ 1
+  pub front_says : (e : E) (p q : ℕ) → S.first e ≤ q → q < p → p < end S e → S.one q (front_of S p e) ≡ S.one q e
+  pub back_says : (e : E) (p q : ℕ) → S.first e < p → p ≤ q → q < end S e → S.one q (back_of S p e) ≡ S.one q e
+  pub one_first : (e : E) (q : ℕ) → S.first (S.one q e) ≡ q
+  pub one_pages : (e : E) (q : ℕ) → S.pages (S.one q e) ≡ 1
 
 -- what a change of elements owes: it moves no element, keeps the kind's bounds, and is the same page by page
 pub record Altering {E : Type 0} (S : Shape E) (h : E → E) : Type 0 where
   pub same_first : (e : E) → S.first (h e) ≡ S.first e
   pub same_pages : (e : E) → S.pages (h e) ≡ S.pages e
   pub same_fits : (e : E) → S.fits (h e) ≡ S.fits e
-  pub page_by_page : (e : E) (q : ℕ) → one_of S q (h e) ≡ h (one_of S q e)
+  pub page_by_page : (e : E) (q : ℕ) → S.one q (h e) ≡ h (S.one q e)

@@ -1,7 +1,7 @@
 -- Tables of elements as lists, and what each edit makes of one.
 use Rattle.std.specs.Prelude.{ℕ, zero, suc, Bool, true, cond, ◌&&◌, List, [], ◌∷◌, ◌++◌, map, is_some, Some, None, Option, nat_le, nat_lt}
 use Rattle.std.specs.List.{flat_map, list_any}
-use Rattle.ranges.specs.Shape.{Shape, end, holds, proper, front_of, back_of, one_of}
+use Rattle.ranges.specs.Shape.{Shape, end, holds, proper, front_of, back_of}
 
 -- proper elements in rising order from page n on, no two with a page in common
 abbrev pub rising : {E : Type 0} → Shape E → ℕ → List E → Bool
@@ -11,7 +11,7 @@ rising S n (e ∷ es) = (proper S e && nat_le n (S.first e)) && rising S (end S 
 -- what the table says of a page
 abbrev pub said : {E : Type 0} → Shape E → ℕ → List E → Option E
 said S p [] = None
-said S p (e ∷ es) = cond (holds S p e) (Some (one_of S p e)) (said S p es)
+said S p (e ∷ es) = cond (holds S p e) (Some (S.one p e)) (said S p es)
 
 -- two elements have a page in common
 abbrev pub meets : {E : Type 0} → Shape E → E → E → Bool

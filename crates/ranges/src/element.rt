@@ -1,6 +1,6 @@
 // What a row of a range table must be able to do.
 ghost use Rattle.std.specs.Prelude.{◌≡◌, ℕ, ◌+◌, ◌<◌, ◌≤◌, true, cond, ◌&&◌, is_some, IfSome, nat_le, nat_lt};
-ghost use Rattle.ranges.specs.Shape.{Shape, Laws, Altering, end, front_of, back_of, one_of, proper, holds};
+ghost use Rattle.ranges.specs.Shape.{Shape, Laws, Altering, end, front_of, back_of, proper, holds};
 
 use crate::range::Range;
 
@@ -25,6 +25,13 @@ pub trait Element: Copy {
         requires within { first + pages ≤ end shape self.now }
         ensures { result ≡ shape.part first pages self.now };
 
+    // What is said of one of its pages. It need not be the part of that page, so each kind says it itself.
+    fn one(&self, page: u16) -> Self
+        requires proper { proper shape self.now ≡ true }
+        requires from { shape.first self.now ≤ page }
+        requires below { page < end shape self.now }
+        ensures { result ≡ shape.one page self.now };
+
     // The part below a page inside.
     fn front(&self, page: u16) -> Self
         requires proper { proper shape self.now ≡ true }
@@ -44,16 +51,6 @@ pub trait Element: Copy {
         ensures { result ≡ back_of shape page self.now }
     {
         self.part(page, self.first() + self.pages() - page)
-    }
-
-    // What is said of one of its pages.
-    fn one(&self, page: u16) -> Self
-        requires proper { proper shape self.now ≡ true }
-        requires from { shape.first self.now ≤ page }
-        requires below { page < end shape self.now }
-        ensures { result ≡ one_of shape page self.now }
-    {
-        self.part(page, 1)
     }
 }
 

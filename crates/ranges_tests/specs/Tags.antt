@@ -14,6 +14,7 @@ tagged_shape = record {
   first = λ e. e.first;
   pages = λ e. e.pages;
   part = λ p n e. tagged_of p n e.tag;
+  one = λ p e. tagged_of p 1 e.tag;
   fits = λ e. true;
 }
 

@@ -39,6 +39,10 @@ impl Element for Tagged {
             ..*self
         }
     }
+
+    fn one(&self, page: u16) -> Tagged {
+        self.part(page, 1)
+    }
 }
 
 // Sets the tag.

@@ -1,4 +1,5 @@
 // Ranges at their edges, and edits of a small table.
+use crate::cuttable::Cuttable;
 use crate::tagged::{Retag, Tagged};
 use ranges::{Element, Range, Refused, Table, change, covers, cut, find, insert, remove};
 use std::test::Fail;
@@ -137,4 +138,15 @@ fn pushes(rt: HostRuntime) {
     table.push(Tagged::new(7, 2, 4));
     assert_eq!(rt; table.len(), 1);
     assert_eq!(rt; table.find(8), Some(Tagged::new(8, 1, 4)));
+}
+
+#[test]
+fn parts_of_one_page(rt: HostRuntime) -> Result<(), Fail> {
+    let mut rows = [Cuttable::whole(0, 0); 2];
+    let n = insert(&mut rows, 0, Cuttable::whole(10, 2)).ok_or("no room")?;
+    let n = cut(&mut rows, n, 11).ok_or("no room")?;
+    assert_eq!(rt; n, 2);
+    assert_eq!(rt; (rows[1].first, rows[1].pages, rows[1].cut), (11, 1, true));
+    assert_eq!(rt; find(&rows[0..n], 11), Some(Cuttable::whole(11, 1)));
+    Ok(())
 }

@@ -3,7 +3,7 @@ use Rattle.std.proofs.Common.{◌≡◌, ℕ, zero, suc, ◌+◌, ◌-◌, ◌<�
 use Rattle.std.specs.List.{flat_map}
 use Rattle.std.specs.Option.{option_to_list}
 use Rattle.std.proofs.lemmas.Bool.{cases_Bool, and_parts, and_from, and_right, leb-true, le-leb, ltb-true, lt-ltb, le-ltb, cond-true, cond-false, not-false}
-use Rattle.ranges.specs.Shape.{Shape, end, holds, proper, one_of}
+use Rattle.ranges.specs.Shape.{Shape, end, holds, proper}
 use Rattle.ranges.specs.Tables.{rising, said}
 use Rattle.machine.specs.declared.words.Entry.{Entry}
 use Rattle.machine.specs.Entries.{entry_shape, part}
@@ -16,11 +16,11 @@ use Rattle.relation.proofs.Lists.{Among, among_joined, among_part}
 -- Elements of a table and what it says
 
 -- what a table says of a page, one of its elements says
-pub said_among : {E : Type 0} (S : Shape E) (p : ℕ) (es : List E) (x : E) → said S p es ≡ Some x → (e : E) × Among e es × (holds S p e ≡ true) × (x ≡ one_of S p e)
+pub said_among : {E : Type 0} (S : Shape E) (p : ℕ) (es : List E) (x : E) → said S p es ≡ Some x → (e : E) × Among e es × (holds S p e ≡ true) × (x ≡ S.one p e)
 said_among S p [] x h = absurd (let z : ◌≡◌ {A = ℕ} 0 1 = cc in omega arith)
 said_among S p (e ∷ es) x h = go (said_among S p es x) (holds S p e) refl h
   where
-    go : (said S p es ≡ Some x → (e : _) × Among e es × (holds S p e ≡ true) × (x ≡ one_of S p e)) → (b : Bool) → holds S p e ≡ b → cond b (Some (one_of S p e)) (said S p es) ≡ Some x → (y : _) × Among y (e ∷ es) × (holds S p y ≡ true) × (x ≡ one_of S p y)
+    go : (said S p es ≡ Some x → (e : _) × Among e es × (holds S p e ≡ true) × (x ≡ S.one p e)) → (b : Bool) → holds S p e ≡ b → cond b (Some (S.one p e)) (said S p es) ≡ Some x → (y : _) × Among y (e ∷ es) × (holds S p y ≡ true) × (x ≡ S.one p y)
     go on true q h = (e, inl refl, q, cc)
     go on false q h = let r = on h in (r.0, inr r.1, r.2, r.3)
 
@@ -37,10 +37,10 @@ rising_from S n (y ∷ ys) e h (inr a) =
     omega (arith, low, next)
 
 -- an element's page is said by it
-pub among_said : {E : Type 0} (S : Shape E) (n p : ℕ) (es : List E) (e : E) → rising S n es ≡ true → Among e es → holds S p e ≡ true → said S p es ≡ Some (one_of S p e)
+pub among_said : {E : Type 0} (S : Shape E) (n p : ℕ) (es : List E) (e : E) → rising S n es ≡ true → Among e es → holds S p e ≡ true → said S p es ≡ Some (S.one p e)
 among_said S n p [] e h a q = absurd a
 among_said S n p (y ∷ ys) e h (inl same) q =
-    subst (λ z. said S p (y ∷ ys) ≡ Some (one_of S p z)) (sym same) (cond-true (holds S p y) _ _ (subst (λ z. holds S p z ≡ true) same q))
+    subst (λ z. said S p (y ∷ ys) ≡ Some (S.one p z)) (sym same) (cond-true (holds S p y) _ _ (subst (λ z. holds S p z ≡ true) same q))
 among_said S n p (y ∷ ys) e h (inr a) q =
     let parts = and_parts (proper S y && leb n (S.first y)) (rising S (end S y) ys) h in
     let from = rising_from S (end S y) ys e parts.1 a in

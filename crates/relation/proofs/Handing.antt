@@ -2,7 +2,7 @@
 use Rattle.std.proofs.Common.{◌≡◌, ℕ, ◌+◌, ◌-◌, ◌<◌, ◌≤◌, Bool, true, false, cond, ◌&&◌, ◌||◌, eqb, ltb, leb, ◌⊎◌, List, [], ◌∷◌, ◌++◌, length, get_or, set, Some, None, sym, refl, ap, ◌∙◌, subst, inl, inr, arith}
 use Rattle.std.proofs.Math.Bool.{or-false, or_assoc}
 use Rattle.std.proofs.lemmas.Bool.{cases_eq, le-leb, leb-true, ltb-true, and_parts, and_from, or_cases, or_left, or_right}
-use Rattle.ranges.specs.Shape.{Shape, holds, proper, one_of}
+use Rattle.ranges.specs.Shape.{Shape, holds, proper}
 use Rattle.ranges.specs.Tables.{rising, said}
 use Rattle.pagers.specs.Meaning.{Meaning}
 use Rattle.machine.specs.declared.words.Entry.{Entry}
@@ -24,20 +24,20 @@ pub said_before : {E : Type 0} (S : Shape E) (p : ℕ) (xs ys : List E) (z : E) 
 said_before S p [] ys z h = absurd (let w : ◌≡◌ {A = ℕ} 0 1 = cc in omega arith)
 said_before S p (x ∷ xs) ys z h = go (said_before S p xs ys z) (holds S p x) h
   where
-    go : (said S p xs ≡ Some z → said S p (xs ++ ys) ≡ Some z) → (b : Bool) → cond b (Some (one_of S p x)) (said S p xs) ≡ Some z → cond b (Some (one_of S p x)) (said S p (xs ++ ys)) ≡ Some z
+    go : (said S p xs ≡ Some z → said S p (xs ++ ys) ≡ Some z) → (b : Bool) → cond b (Some (S.one p x)) (said S p xs) ≡ Some z → cond b (Some (S.one p x)) (said S p (xs ++ ys)) ≡ Some z
     go on true h = h
     go on false h = on h
 
 -- what a table says with one entry behind it is said before it or by the entry
-pub said_last : {E : Type 0} (S : Shape E) (p : ℕ) (xs : List E) (y z : E) → said S p (xs ++ (y ∷ [])) ≡ Some z → (said S p xs ≡ Some z) ⊎ ((holds S p y ≡ true) × (z ≡ one_of S p y))
+pub said_last : {E : Type 0} (S : Shape E) (p : ℕ) (xs : List E) (y z : E) → said S p (xs ++ (y ∷ [])) ≡ Some z → (said S p xs ≡ Some z) ⊎ ((holds S p y ≡ true) × (z ≡ S.one p y))
 said_last S p [] y z h = go (holds S p y) refl h
   where
-    go : (b : Bool) → holds S p y ≡ b → cond b (Some (one_of S p y)) None ≡ Some z → (None ≡ Some z) ⊎ ((holds S p y ≡ true) × (z ≡ one_of S p y))
+    go : (b : Bool) → holds S p y ≡ b → cond b (Some (S.one p y)) None ≡ Some z → (None ≡ Some z) ⊎ ((holds S p y ≡ true) × (z ≡ S.one p y))
     go true e h = inr (e, cc)
     go false e h = inl h
 said_last S p (x ∷ xs) y z h = go (said_last S p xs y z) (holds S p x) h
   where
-    go : (said S p (xs ++ (y ∷ [])) ≡ Some z → (said S p xs ≡ Some z) ⊎ ((holds S p y ≡ true) × (z ≡ one_of S p y))) → (b : Bool) → cond b (Some (one_of S p x)) (said S p (xs ++ (y ∷ []))) ≡ Some z → (cond b (Some (one_of S p x)) (said S p xs) ≡ Some z) ⊎ ((holds S p y ≡ true) × (z ≡ one_of S p y))
+    go : (said S p (xs ++ (y ∷ [])) ≡ Some z → (said S p xs ≡ Some z) ⊎ ((holds S p y ≡ true) × (z ≡ S.one p y))) → (b : Bool) → cond b (Some (S.one p x)) (said S p (xs ++ (y ∷ []))) ≡ Some z → (cond b (Some (S.one p x)) (said S p xs) ≡ Some z) ⊎ ((holds S p y ≡ true) × (z ≡ S.one p y))
     go on true h = inl h
     go on false h = on h
 

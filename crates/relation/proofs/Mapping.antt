@@ -2,7 +2,7 @@
 use Rattle.std.proofs.Common.{◌≡◌, ℕ, ◌+◌, ◌-◌, ◌<◌, Bool, true, false, cond, ltb, leb, ◌⊎◌, List, [], ◌∷◌, length, get_or, set, is_some, Some, None, Option, sym, refl, ap, ◌∙◌, subst, inl, inr, arith}
 use Rattle.std.proofs.lemmas.Bool.{both_ways, cases_eq, eq-eqb, ne_eqb, leb-true, ltb-true, ltb-false, lt-ltb, and_parts, and_from, or_parts}
 use Rattle.ranges.specs.Says.{Inserts}
-use Rattle.ranges.specs.Shape.{Shape, end, holds, one_of}
+use Rattle.ranges.specs.Shape.{Shape, end, holds}
 use Rattle.ranges.specs.Tables.{said, meets, taken}
 use Rattle.pagers.specs.Meaning.{Meaning}
 use Rattle.machine.specs.declared.words.Entry.{Entry}
@@ -33,7 +33,7 @@ pub untaken : {E : Type 0} (S : Shape E) (e : E) (es : List E) (p : ℕ) → tak
 untaken S e [] p h q = refl
 untaken S e (y ∷ ys) p h q = go (untaken S e ys p (or_parts (meets S e y) (taken S e ys) h).1 q) (holds S p y) refl
   where
-    go : said S p ys ≡ None → (b : Bool) → holds S p y ≡ b → cond b (Some (one_of S p y)) (said S p ys) ≡ None
+    go : said S p ys ≡ None → (b : Bool) → holds S p y ≡ b → cond b (Some (S.one p y)) (said S p ys) ≡ None
     go on true k =
         let a = and_parts (leb (S.first e) p) (ltb p (end S e)) q in
         let b = and_parts (leb (S.first y) p) (ltb p (end S y)) k in

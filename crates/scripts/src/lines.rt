@@ -1,10 +1,11 @@
 // The lines of a transcript: a record's number, the answer and what it carries.
 // The number is the caller's, from the iterator over the records: in a struct beside the text it could not be given for a lone line.
 // An answer is given as its number, since a type of answers would take fewer of them than a u8.
-ghost use Rattle.std.specs.Prelude.{◌≡◌, ◌++◌, Some, string_bytes, decimal, OnOk};
+ghost use Rattle.std.specs.Prelude.{◌≡◌, ◌<◌, ◌++◌, Some, string_bytes, decimal, OnOk};
 ghost use Rattle.machine.specs.Calls.{gives};
 ghost use Rattle.scripts.specs.Text.{Adds, hex, line, replied, row, spaced, usage_answer};
 ghost use Rattle.std.specs.List.{flat_map};
+ghost use Rattle.std.specs.Char.{digit_char};
 
 use std::alloc::AllocError;
 use std::fmt;
@@ -24,17 +25,29 @@ impl fmt::Display for Spaced<'_> {
     }
 }
 
-// A byte, printed as two lower-case hexadecimal digits.
+// The hexadecimal digit of a number below 16.
+fn hex_digit(value: u8) -> char
+    requires { value < 16 }
+    ensures digit { result ≡ digit_char value }
+    ensures ascii { result < 128 }
+{
+    if value < 10 {
+        char::from(b'0' + value)
+    } else {
+        char::from(b'a' + (value - 10))
+    }
+}
+
+// A byte, printed as two lower-case hexadecimal digits. They are written one by one: by the format `{:02x}`, bytes took twice as long.
 #[derive(Clone, Copy)]
 struct HexByte(u8);
 
 impl fmt::Display for HexByte {
     ghost output = { λ b. Some (hex b.0) };
 
-    #[tactic(auto, using(std::proofs::lemmas::Fmt::hex_byte))]
     fn fmt<W: fmt::Write>(&self, f: &mut fmt::Formatter<W>) -> fmt::Result {
-        let byte = self.0;
-        write!(f, "{byte:02x}")
+        f.write_char(hex_digit(self.0 / 16))?;
+        f.write_char(hex_digit(self.0 % 16))
     }
 }
 
@@ -47,7 +60,7 @@ impl fmt::Display for Hex<'_> {
 
     fn fmt<W: fmt::Write>(&self, f: &mut fmt::Formatter<W>) -> fmt::Result {
         for &byte in self.0 {
-            write!(f, "{}", HexByte(byte))?;
+            HexByte(byte).fmt(f)?;
         }
         Ok(())
     }

@@ -1,6 +1,5 @@
 use Rattle.std.proofs.Common.{rules, Some, sym, ap, ◌∙◌}
 use Rattle.std.specs.Option.{option_map}
-use Rattle.ranges.specs.Shape.{one_of}
 use Rattle.ranges.proofs.Scans.{said_by, found_row}
 use Rattle.ranges.proofs.scan.find.Goals as goal
 
@@ -18,4 +17,4 @@ returns-in_err-row g c =
 pub returns : goal.returns
 returns g c =
     let S = g.E.Element.shape in
-    ap Some c.one.ensures ∙ ap (option_map (one_of S c.args.page)) (sym c.in_ok-row.was ∙ c.row_of.ensures) ∙ sym (said_by S c.args.page c.args.rows.now)
+    ap Some c.one.ensures ∙ ap (option_map (S.one c.args.page)) (sym c.in_ok-row.was ∙ c.row_of.ensures) ∙ sym (said_by S c.args.page c.args.rows.now)
